@@ -1,0 +1,22 @@
+-- The cases marked P hold, by computation. Assumes nothing.
+use mathlib.Core.Bool.{true}
+use mathlib.Core.Path.{_≡_, refl}
+use Rattle.model.specs.Functions.{upd, weigh, sum, any, member}
+use Rattle.model.specs.Sizes.{groups, processes, deepest}
+use Rattle.model.specs.Checks.{first}
+use Rattle.model.specs.Hierarchy.{climb, chain, inside, firstCommon, commonAncestor, held, usage, population}
+use Rattle.model.specs.Text.{sameBytes, body, leadingWord, startsIn, words, digitsFrom, numberWord, digits, decimal, spaced}
+use Rattle.model.specs.Names.{named}
+use Rattle.model.specs.Control.{isControlWord, askedBy, askedFrom, firstBad, badRest, anyIn}
+use Rattle.model.specs.Settings.{limitWord, valueOf, inRange, put, shown, valueText, reset}
+use Rattle.model.specs.Rooms.{actingLimit, consult}
+use Rattle.model.specs.Rules.{hasChild, hasProcess, heldByChild, oneNumber}
+use Rattle.model.specs.Files.{processLines, namesOf, nameLine, contents, path, membershipLine}
+use Rattle.model.specs.Calls.{chargeChecks, forkChecks, checks, verdict}
+use Rattle.model.specs.Effects.{effect, step, fresh, run}
+use Rattle.model.specs.Replies.{chargeAnswer, forkAnswer, reply}
+use Rattle.model.specs.Worked.{holds, allHold, table}
+
+pub all-hold : allHold table ≡ true
+unfolding upd weigh sum any member groups processes deepest first climb chain inside firstCommon commonAncestor held usage population sameBytes body leadingWord startsIn words digitsFrom numberWord digits decimal spaced named isControlWord askedBy askedFrom firstBad badRest anyIn limitWord valueOf inRange put shown valueText reset actingLimit consult hasChild hasProcess heldByChild oneNumber processLines namesOf nameLine contents path membershipLine chargeChecks forkChecks checks verdict effect step fresh run chargeAnswer forkAnswer reply holds allHold table
+all-hold = refl

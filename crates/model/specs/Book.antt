@@ -1,0 +1,113 @@
+-- The book of demand 3, in document 01's word ("The book of demand 3"): a ledger that is fed the machine size, then each
+-- call's arguments and the number it answered, and nothing else. It is written from its own paragraph: it shares types and
+-- the reading of lines with the calls, and none of their effects. Assumes nothing.
+use Prim.Native.Nat.{ℕ, zero, suc, _+_, _-_, min}
+use mathlib.Core.Bool.{Bool, true, false}
+use mathlib.Core.List.{List, [], _∷_}
+use mathlib.Core.Option.{Option, none, some}
+use Rattle.model.specs.Functions.{upd, pick}
+use Rattle.model.specs.Sizes.{largestMachine}
+use Rattle.model.specs.Tree.{Core, Place, nowhere, at, groupOf, controllerOf, noCore, newCore, withOwn, withLimits, withLimit}
+use Rattle.model.specs.Hierarchy.{usage, amount, childOf}
+use Rattle.model.specs.Control.{asked, isDropped}
+use Rattle.model.specs.Settings.{Value, weight, bandwidth, max, mapLimit, toAmount}
+use Rattle.model.specs.Rules.{lineProcess}
+use Rattle.model.specs.Calls.{Call, make, remove, handOver, writeProcs, writeControl, writeSetting, admit, fork, exit, charge, release, read, membership, lineValue}
+use Rattle.model.specs.declared.Resource.{Resource}
+use Rattle.model.specs.declared.Resource.the-variants.{Pages, Processes}
+use Rattle.model.specs.declared.Limit.{Limit}
+use Rattle.model.specs.declared.Limit.the-variants.{NoLimit}
+
+-- "It keeps the live groups with parent, own pages, memory limit, pids limit and a mark, and where each live process stands."
+-- The mark, in document 01's word, is the usage when the memory limit was last written.
+pub record Book : Type 0 where
+  pub machine : ℕ
+  pub group : ℕ → Core
+  pub mark : ℕ → ℕ
+  pub place : ℕ → Place
+
+-- what the book says stands inside a group
+abbrev pub inBook : Book → Resource → ℕ → ℕ
+inBook b = amount (b .group) (b .place)
+
+-- One entry changed.
+abbrev pub enterGroup : Book → ℕ → Core → Book
+enterGroup b g c = record { machine = b .machine; group = upd (b .group) g c; mark = b .mark; place = b .place }
+
+abbrev pub enterPlace : Book → ℕ → Place → Book
+enterPlace b p l = record { machine = b .machine; group = b .group; mark = b .mark; place = upd (b .place) p l }
+
+-- "G's own pages go to its parent; G is no longer live."
+abbrev pub handedUp : Book → ℕ → Book
+handedUp b g =
+    let h : ℕ = b .group g .parent in
+    enterGroup (enterGroup b h (withOwn (b .group h .own + b .group g .own) (b .group h))) g noCore
+
+-- "G's limit becomes the line's, as that call reads it; for memory.max the mark becomes G's usage at that moment."
+abbrev pub markAfter : Resource → Book → ℕ → ℕ → ℕ
+markAfter Pages b g = upd (b .mark) g (usage (b .group) g)
+markAfter Processes b g = b .mark
+
+abbrev pub enterLimit : Book → ℕ → Resource → Limit → Book
+enterLimit b g r l =
+    record {
+      machine = b .machine;
+      group = upd (b .group) g (withLimits (withLimit r l (b .group g .limit)) (b .group g));
+      mark = markAfter r b g;
+      place = b .place;
+    }
+
+abbrev pub enterValue : Book → ℕ → Option Value → Book
+enterValue b g none = b
+enterValue b g (some (weight n)) = b
+enterValue b g (some (bandwidth q p)) = b
+enterValue b g (some (max r l)) = enterLimit b g r (mapLimit (toAmount r) l)
+
+-- "where the last word on memory is "-memory", G's children lose their memory limits; the same for pids"
+abbrev pub limitsAfter : List ℕ → (Resource → Limit) → Resource → Limit
+limitsAfter line l r = pick (isDropped (asked line (controllerOf r))) NoLimit (l r)
+
+abbrev pub childAfter : ℕ → List ℕ → ℕ → Core → Core
+childAfter g line k c = elim (childOf g k c) [ true ↦ withLimits (limitsAfter line (c .limit)) c | false ↦ c ]
+
+-- an accepted call
+unfoldable pub enter : Book → Call → Book
+enter b (make user parent new) = enterGroup b new (newCore parent)
+enter b (remove user g) = handedUp b g
+enter b (handOver user g owner) = b
+enter b (writeProcs user g line) = enterPlace b (lineProcess line) (at g)
+enter b (writeControl user g line) =
+    record { machine = b .machine; group = λ k. childAfter g line k (b .group k); mark = b .mark; place = b .place }
+enter b (writeSetting user g file line) = enterValue b g (lineValue file line)
+enter b (admit p user) = enterPlace b p (at 0)
+enter b (fork p new) = enterPlace b new (b .place p)
+enter b (exit p) = enterPlace b p nowhere
+enter b (charge p n) =
+    let g : ℕ = groupOf (b .place p) in
+    enterGroup b g (withOwn (b .group g .own + n) (b .group g))
+enter b (release g n) = enterGroup b g (withOwn (b .group g .own - n) (b .group g))
+enter b (read g file buffer) = b
+enter b (membership p buffer) = b
+
+-- a call and the number that it answered: "No step: a refused call"
+unfoldable pub bookStep : Book → Call → ℕ → Book
+bookStep b c zero = enter b c
+bookStep b c (suc n) = b
+
+-- "It begins with the root, no pages, no limit, no process."
+unfoldable pub freshBook : ℕ → Book
+freshBook m =
+    record {
+      machine = min m largestMachine;
+      group = upd (λ g. noCore) 0 (newCore 0);
+      mark = λ g. 0;
+      place = λ p. nowhere;
+    }
+
+pub record Entry : Type 0 where
+  pub call : Call
+  pub number : ℕ
+
+unfoldable pub fed : Book → List Entry → Book
+fed b [] = b
+fed b (e ∷ es) = fed (bookStep b (e .call) (e .number)) es

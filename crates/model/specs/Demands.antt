@@ -1,0 +1,132 @@
+-- The three demands, as statements about the definitions. proofs/Demands.antt shows them. Assumes nothing.
+use Prim.Native.Nat.{ℕ, _≤_, max}
+use mathlib.Core.Bool.{Bool, true, false}
+use mathlib.Core.List.{List, [], _∷_, _++_}
+use mathlib.Core.Logic.{_≢_}
+use mathlib.Core.Option.{Option, none, some}
+use mathlib.Core.Path.{_≡_}
+use Rattle.model.specs.Checks.{errnoNumber, Says}
+use Rattle.model.specs.Tree.{Tree, Place, at, groupOf, controllerOf, cores, lives, parents, owners, places}
+use Rattle.model.specs.Hierarchy.{inside, amount, Facts, factsOf}
+use Rattle.model.specs.Text.{ended, decimal}
+use Rattle.model.specs.Names.{settingName, fileName}
+use Rattle.model.specs.Settings.{settingController, toFigure}
+use Rattle.model.specs.Rooms.{over}
+use Rattle.model.specs.Rules.{mayWrite, on}
+use Rattle.model.specs.Files.{contents, fits}
+use Rattle.model.specs.Calls.{Call, make, remove, handOver, writeProcs, writeControl, writeSetting, admit, fork, exit, charge, release, read, membership, checks, verdict}
+use Rattle.model.specs.Effects.{effect, step, fresh, run}
+use Rattle.model.specs.Replies.{reply, textReply, bufferOf}
+use Rattle.model.specs.Book.{Book, inBook, Entry, freshBook, fed}
+use Rattle.model.specs.declared.Resource.{Resource}
+use Rattle.model.specs.declared.Resource.the-variants.{Pages, Processes}
+use Rattle.model.specs.declared.Limit.the-variants.{Figure}
+use Rattle.model.specs.declared.Setting.{Setting}
+use Rattle.model.specs.declared.File.the-variants.{Current, Value}
+use Rattle.model.specs.declared.Errno.{Errno}
+use Rattle.model.specs.declared.Answer.{Answer}
+use Rattle.model.specs.declared.Answer.the-variants.{Done, Refused}
+
+-- a tree that calls can reach from a fresh one of some size
+pub record Reachable (t : Tree) : Type 0 where
+  pub size : ℕ
+  pub calls : List Call
+  pub made : run (fresh size) calls ≡ t
+
+-- Demand 1. "A call turned away gives document 01's number and leaves tree, processes, charges and reply buffer untouched."
+pub record TurnedAway (t : Tree) (c : Call) (e : Errno) : Type 0 where
+  pub number : reply t c .number ≡ errnoNumber e
+  pub tree : step t c ≡ t
+  pub buffer : reply t c .buffer ≡ bufferOf c
+  pub told : reply t c .told ≡ 0
+
+-- Demand 2. "Calls are turned away exactly when a listed rule says so, and otherwise do exactly what the rule says."
+pub record Exactly (t : Tree) (c : Call) : Type 0 where
+  pub says : Says (checks (factsOf t) c) (verdict t c)
+  pub only : (a : Answer) → Says (checks (factsOf t) c) a → a ≡ verdict t c
+  pub accepted : verdict t c ≡ Done → (step t c ≡ effect t c) × (reply t c .number ≡ 0)
+
+-- "What a settings file shows can be written back by whoever may write it, and changes nothing."
+abbrev pub writtenBack : Tree → ℕ → ℕ → Setting → Call
+writtenBack t user g s = writeSetting user g (settingName s) (contents (factsOf t) g (Value s))
+
+pub record WriteBack (t : Tree) : Type 0 where
+  pub accepted : (user g : ℕ) (s : Setting) → lives t g ≡ true → on t (settingController s) g ≡ true
+      → mayWrite t user (parents t g) ≡ true → verdict t (writtenBack t user g s) ≡ Done
+  pub same : (user g : ℕ) (s : Setting) → lives t g ≡ true → on t (settingController s) g ≡ true
+      → mayWrite t user (parents t g) ≡ true → step t (writtenBack t user g s) ≡ t
+
+-- the user that makes a call, where one does
+abbrev pub caller : Call → Option ℕ
+caller (make user parent new) = some user
+caller (remove user g) = some user
+caller (handOver user g owner) = some user
+caller (writeProcs user g line) = some user
+caller (writeControl user g line) = some user
+caller (writeSetting user g file line) = some user
+caller (admit p user) = none
+caller (fork p new) = none
+caller (exit p) = none
+caller (charge p n) = none
+caller (release g n) = none
+caller (read g file buffer) = none
+caller (membership p buffer) = none
+
+-- "A user other than 0, all of whose groups lie inside one handed-over part, never moves a process across that part's edge."
+-- The part is d and all below it; a call in which nobody is named moves no process either.
+abbrev pub OwnsInside : Tree → ℕ → ℕ → Type 0
+OwnsInside t user d = (g : ℕ) → lives t g ≡ true → owners t g ≡ user → inside (parents t) d g ≡ true
+
+pub record Contained (t : Tree) : Type 0 where
+  pub across : (user d : ℕ) (c : Call) → user ≢ 0 → OwnsInside t user d → caller c ≡ some user
+      → (p g h : ℕ) → places t p ≡ at g → places (step t c) p ≡ at h → inside (parents t) d g ≡ inside (parents t) d h
+  pub nobody : (c : Call) → caller c ≡ none → (p g h : ℕ) → places t p ≡ at g → places (step t c) p ≡ at h → g ≡ h
+
+-- Demand 3. The calls with the numbers that they answered, and the tree and the book after them.
+unfoldable pub log : Tree → List Call → List Entry
+log t [] = []
+log t (c ∷ cs) = record { call = c; number = reply t c .number } ∷ log (step t c) cs
+
+abbrev pub treeAfter : ℕ → List Call → Tree
+treeAfter m cs = run (fresh m) cs
+
+abbrev pub bookAfter : ℕ → List Call → Book
+bookAfter m cs = fed (freshBook m) (log (fresh m) cs)
+
+-- "tree and book are alike in live groups, parents, own pages, usage, both limits, each live process's group and the live
+-- processes inside each group. Where on, memory.current shows the book's usage in bytes, and pids.current the book's live
+-- processes inside."
+pub record Alike (t : Tree) (b : Book) : Type 0 where
+  pub machine : t .machine ≡ b .machine
+  pub live : (g : ℕ) → lives t g ≡ b .group g .live
+  pub parent : (g : ℕ) → parents t g ≡ b .group g .parent
+  pub own : (g : ℕ) → t .group g .core .own ≡ b .group g .own
+  pub limit : (r : Resource) (g : ℕ) → t .group g .core .limit r ≡ b .group g .limit r
+  pub place : (p : ℕ) → places t p ≡ b .place p
+  pub amount : (r : Resource) (g : ℕ) → amount (cores t) (places t) r g ≡ inBook b r g
+  pub shows : (r : Resource) (g : ℕ) (buffer : List ℕ) → lives t g ≡ true → on t (controllerOf r) g ≡ true
+      → fits (ended (decimal (toFigure r (inBook b r g)))) buffer ≡ true
+      → reply t (read g (fileName (Current r)) buffer) ≡ textReply Done (ended (decimal (toFigure r (inBook b r g)))) buffer
+
+-- "a group with a page limit never has more pages than the larger of the limit and what it had when the limit was last
+-- written", and the root is never over the machine
+pub record Bounded (b : Book) : Type 0 where
+  pub machine : inBook b Pages 0 ≤ b .machine
+  pub pages : (g l : ℕ) → b .group g .live ≡ true → b .group g .limit Pages ≡ Figure l → inBook b Pages g ≤ max l (b .mark g)
+
+-- a call that asks for more of a resource, and the process it asks for
+pub data Claims : Resource → ℕ → Call → Type 0 where
+  byCharge : {p n : ℕ} → Claims Pages p (charge p n)
+  byFork : {p new : ℕ} → Claims Processes p (fork p new)
+
+-- no group on the way up from g is over its limit
+abbrev pub NoneOver : Resource → Book → ℕ → Type 0
+NoneOver r b g = (a : ℕ) → inside (λ k. b .group k .parent) a g ≡ true → over (inBook b r a) (b .group a .limit r) ≡ false
+
+-- "After every list of calls from a fresh tree of any size, refused ones included."
+pub record Demand3 (m : ℕ) (cs : List Call) : Type 0 where
+  pub alike : Alike (treeAfter m cs) (bookAfter m cs)
+  pub bounded : Bounded (bookAfter m cs)
+  pub granted : (r : Resource) (p : ℕ) (c : Call) (xs ys : List Call) → Claims r p c → cs ≡ xs ++ (c ∷ ys)
+      → reply (treeAfter m xs) c .number ≡ 0
+      → NoneOver r (bookAfter m (xs ++ (c ∷ []))) (groupOf (bookAfter m xs .place p))

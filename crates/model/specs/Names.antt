@@ -1,0 +1,63 @@
+-- The names of controllers and files, and which name is which. Assumes nothing.
+use Prim.Native.Nat.{ℕ}
+use mathlib.Core.Bool.{Bool, true, false}
+use mathlib.Core.List.{List, [], _∷_}
+use mathlib.Core.Option.{Option, none, some}
+use Rattle.model.specs.Functions.{pick}
+use Rattle.model.specs.Text.{bytes, sameBytes}
+use Rattle.model.specs.declared.Resource.{Resource}
+use Rattle.model.specs.declared.Resource.the-variants.{Pages, Processes}
+use Rattle.model.specs.declared.Controller.{Controller}
+use Rattle.model.specs.declared.Controller.the-variants.{Cpu, Memory, Pids}
+use Rattle.model.specs.declared.Setting.{Setting}
+use Rattle.model.specs.declared.Setting.the-variants.{CpuWeight, CpuMax, Max}
+use Rattle.model.specs.declared.File.{File}
+use Rattle.model.specs.declared.File.the-variants.{Procs, Controllers, SubtreeControl, Events, Current, Value}
+
+-- "Controllers cpu, memory, pids, always listed in this order."
+abbrev pub controllers : List Controller
+controllers = Cpu ∷ Memory ∷ Pids ∷ []
+
+abbrev pub controllerName : Controller → List ℕ
+controllerName Cpu = bytes "cpu"
+controllerName Memory = bytes "memory"
+controllerName Pids = bytes "pids"
+
+-- the four settings
+abbrev pub settings : List Setting
+settings = CpuWeight ∷ CpuMax ∷ Max Pages ∷ Max Processes ∷ []
+
+abbrev pub settingName : Setting → List ℕ
+settingName CpuWeight = bytes "cpu.weight"
+settingName CpuMax = bytes "cpu.max"
+settingName (Max Pages) = bytes "memory.max"
+settingName (Max Processes) = bytes "pids.max"
+
+-- the files of "What a reader sees"
+abbrev pub files : List File
+files =
+    Procs ∷ Controllers ∷ SubtreeControl ∷ Events ∷ Current Pages ∷ Current Processes
+    ∷ Value CpuWeight ∷ Value CpuMax ∷ Value (Max Pages) ∷ Value (Max Processes) ∷ []
+
+abbrev pub fileName : File → List ℕ
+fileName Procs = bytes "cgroup.procs"
+fileName Controllers = bytes "cgroup.controllers"
+fileName SubtreeControl = bytes "cgroup.subtree_control"
+fileName Events = bytes "cgroup.events"
+fileName (Current Pages) = bytes "memory.current"
+fileName (Current Processes) = bytes "pids.current"
+fileName (Value s) = settingName s
+
+-- the first of a list whose name it is
+unfoldable pub named : {A : Type 0} → (A → List ℕ) → List ℕ → List A → Option A
+named name w [] = none
+named name w (a ∷ as′) = pick (sameBytes w (name a)) (some a) (named name w as′)
+
+abbrev pub controllerNamed : List ℕ → Option Controller
+controllerNamed w = named controllerName w controllers
+
+abbrev pub settingNamed : List ℕ → Option Setting
+settingNamed w = named settingName w settings
+
+abbrev pub fileNamed : List ℕ → Option File
+fileNamed w = named fileName w files

@@ -1,0 +1,78 @@
+-- The tests that the checks are made of. Assumes nothing.
+use Prim.Native.Nat.{ℕ}
+use mathlib.Core.Bool.{Bool, true, false, not, _&&_, _||_}
+use mathlib.Core.List.{List, [], _∷_}
+use mathlib.Core.Option.{Option, none, some}
+use lib.Dec.{eqb, leb, ltb}
+use Rattle.model.specs.Functions.{any, orElse, passes}
+use Rattle.model.specs.Sizes.{groups, processes, largestCharge}
+use Rattle.model.specs.Tree.{Tree, Place, nowhere, at, groupOf, cores, lives, parents, owners, sets, places}
+use Rattle.model.specs.Hierarchy.{childOf, commonAncestor}
+use Rattle.model.specs.Text.{numberWord, lineWords}
+use Rattle.model.specs.Control.{Ask, asked, joins, leaves}
+use Rattle.model.specs.declared.Controller.{Controller}
+
+-- numbers out of range
+abbrev pub noGroupNumber : ℕ → Bool
+noGroupNumber g = leb groups g
+
+abbrev pub noProcessNumber : ℕ → Bool
+noProcessNumber p = leb processes p
+
+-- "May write G" means: is user 0 or G's owner.
+abbrev pub mayWrite : Tree → ℕ → ℕ → Bool
+mayWrite t user g = eqb user 0 || eqb user (owners t g)
+
+-- "A controller is on in G if G is not the root and G's parent has it in its set."
+abbrev pub on : Tree → Controller → ℕ → Bool
+on t c g = not (eqb g 0) && sets t (parents t g) c
+
+-- "the root has all three, others what is on"
+abbrev pub available : Tree → Controller → ℕ → Bool
+available t c g = eqb g 0 || sets t (parents t g) c
+
+-- whether a process stands in g
+abbrev pub standsIn : Place → ℕ → Bool
+standsIn nowhere g = false
+standsIn (at h) g = eqb h g
+
+-- the group of a live process
+abbrev pub processGroup : Tree → ℕ → ℕ
+processGroup t p = groupOf (places t p)
+
+-- a live child; a live process in g itself; a controller in a child's set
+unfoldable pub hasChild : Tree → ℕ → Bool
+hasChild t g = any groups (λ k. childOf g k (cores t k))
+
+unfoldable pub hasProcess : Tree → ℕ → Bool
+hasProcess t g = any processes (λ p. standsIn (places t p) g)
+
+unfoldable pub heldByChild : Tree → ℕ → Controller → Bool
+heldByChild t g c = any groups (λ k. childOf g k (cores t k) && sets t k c)
+
+-- the number of a line that is one number word
+unfoldable pub oneNumber : List (List ℕ) → Option ℕ
+oneNumber [] = none
+oneNumber (w ∷ []) = numberWord w
+oneNumber (w ∷ v ∷ vs) = none
+
+abbrev pub numberLine : List ℕ → Option ℕ
+numberLine line = oneNumber (lineWords line)
+
+-- the process that a line of cgroup.procs names; 0 is no process
+abbrev pub lineProcess : List ℕ → ℕ
+lineProcess line = orElse 0 (numberLine line)
+
+-- the second 13 of cgroup.procs: "unless the user is 0, or is the process's user and may write the lowest group that is on
+-- both chains, source's and target's"
+abbrev pub mayMove : Tree → ℕ → ℕ → ℕ → Bool
+mayMove t user p g =
+    eqb user 0
+    || (eqb user (t .process p .user) && mayWrite t user (commonAncestor (parents t) (processGroup t p) g))
+
+-- the controllers that a line makes join the set of g, or leave it
+abbrev pub joining : Tree → ℕ → List ℕ → Controller → Bool
+joining t g line c = joins (sets t g c) (asked line c)
+
+abbrev pub leaving : Tree → ℕ → List ℕ → Controller → Bool
+leaving t g line c = leaves (sets t g c) (asked line c)

@@ -1,0 +1,30 @@
+-- The sizes of document 01, "What the host keeps" and "Lines", each named once. Assumes nothing.
+use Prim.Native.Nat.{ℕ}
+
+-- group numbers are below this: "Groups 0 to 63"
+unfoldable pub groups : ℕ
+groups = 64
+
+-- process numbers are above 0 and below this: "Processes 1 to 256"
+unfoldable pub processes : ℕ
+processes = 257
+
+-- "A child's depth is its parent's plus one, at most 8"
+unfoldable pub deepest : ℕ
+deepest = 8
+
+-- "pages of 4,096 bytes"
+abbrev pub pageBytes : ℕ
+pageBytes = 4096
+
+-- "0 to 2^40 pages, a larger figure counts as 2^40"
+abbrev pub largestMachine : ℕ
+largestMachine = 1099511627776
+
+-- the pages of one charge or release: "1 to 1048576"
+abbrev pub largestCharge : ℕ
+largestCharge = 1048576
+
+-- "At most 128 bytes, newline counted"
+abbrev pub longestLine : ℕ
+longestLine = 128

@@ -1,0 +1,171 @@
+-- The cases of document 01, "Evenings we have worked through", that are marked P: calls with the whole reply that each
+-- must get, from the bytes of the lines to the bytes of the reply buffer. proofs/Worked.antt shows that all hold.
+-- Assumes nothing.
+use Prim.Native.Nat.{ℕ, zero, suc}
+use Prim.Native.String.{String}
+use mathlib.Core.Bool.{Bool, true, false, _&&_}
+use mathlib.Core.List.{List, [], _∷_, _++_}
+use mathlib.Core.Option.{Option, none, some}
+use lib.Dec.{eqb}
+use lib.ListN.{length}
+use Rattle.model.specs.Tree.{Tree}
+use Rattle.model.specs.Text.{bytes, sameBytes}
+use Rattle.model.specs.Calls.{Call, make, remove, handOver, writeProcs, writeControl, writeSetting, admit, fork, exit, charge, release, read, membership}
+use Rattle.model.specs.Effects.{step, fresh}
+use Rattle.model.specs.Replies.{Reply, reply}
+
+-- a call and the whole reply that it must get
+pub record Row : Type 0 where
+  pub call : Call
+  pub expected : Reply
+
+abbrev pub row : Call → ℕ → Option ℕ → ℕ → ℕ → List ℕ → Row
+row c n g k l b = record { call = c; expected = record { number = n; group = g; consulted = k; told = l; buffer = b } }
+
+-- success, or a number, with nothing to tell
+abbrev pub succeeds : Call → Row
+succeeds c = row c 0 none 0 0 []
+
+abbrev pub refuses : Call → ℕ → Row
+refuses c n = row c n none 0 0 []
+
+-- a charge or a fork that found room, and one that did not
+abbrev pub granted : Call → ℕ → Row
+granted c k = row c 0 none k 0 []
+
+abbrev pub stopped : Call → ℕ → ℕ → ℕ → Row
+stopped c n g k = row c n (some g) k 0 []
+
+-- a text delivered into a buffer that is four bytes longer
+abbrev pub marks : List ℕ
+marks = 1 ∷ 2 ∷ 3 ∷ 4 ∷ []
+
+abbrev pub blankBytes : List ℕ → List ℕ
+blankBytes [] = []
+blankBytes (b ∷ bs) = 0 ∷ blankBytes bs
+
+abbrev pub reads : ℕ → String → String → Row
+reads g file text =
+    row (read g (bytes file) (blankBytes (bytes text) ++ marks)) 0 none 0 (length (bytes text)) (bytes text ++ marks)
+
+abbrev pub belongs : ℕ → String → Row
+belongs p text =
+    row (membership p (blankBytes (bytes text) ++ marks)) 0 none 0 (length (bytes text)) (bytes text ++ marks)
+
+-- lines as text
+abbrev pub setting : ℕ → ℕ → String → String → Call
+setting user g file line = writeSetting user g (bytes file) (bytes line)
+
+abbrev pub control : ℕ → ℕ → String → Call
+control user g line = writeControl user g (bytes line)
+
+abbrev pub procs : ℕ → ℕ → String → Call
+procs user g line = writeProcs user g (bytes line)
+
+-- calls one after the other, from a fresh tree
+pub record Evening : Type 0 where
+  pub machine : ℕ
+  pub rows : List Row
+
+abbrev pub evening : ℕ → List Row → Evening
+evening m rows = record { machine = m; rows = rows }
+
+abbrev pub sameOption : Option ℕ → Option ℕ → Bool
+sameOption none none = true
+sameOption none (some b) = false
+sameOption (some a) none = false
+sameOption (some a) (some b) = eqb a b
+
+abbrev pub sameReply : Reply → Reply → Bool
+sameReply a b =
+    eqb (a .number) (b .number)
+    && (sameOption (a .group) (b .group)
+    && (eqb (a .consulted) (b .consulted) && (eqb (a .told) (b .told) && sameBytes (a .buffer) (b .buffer))))
+
+unfoldable pub holds : Tree → List Row → Bool
+holds t [] = true
+holds t (r ∷ rs) = elim (sameReply (reply t (r .call)) (r .expected)) [ true ↦ holds (step t (r .call)) rs | false ↦ false ]
+
+unfoldable pub allHold : List Evening → Bool
+allHold [] = true
+allHold (e ∷ es) = elim (holds (fresh (e .machine)) (e .rows)) [ true ↦ allHold es | false ↦ false ]
+
+unfoldable pub table : List Evening
+table =
+    -- P1 to P5
+    evening 1024 (
+    succeeds (make 0 0 1)
+    ∷ succeeds (make 0 1 2)
+    ∷ succeeds (control 0 0 "+memory\n")
+    ∷ succeeds (control 0 1 "+memory\n")
+    ∷ succeeds (setting 0 1 "memory.max" "40960\n")
+    ∷ succeeds (setting 0 2 "memory.max" "32768\n")
+    ∷ succeeds (admit 5 7)
+    ∷ succeeds (procs 0 2 "5\n")
+    ∷ granted (charge 5 8) 3
+    ∷ stopped (charge 5 1) 12 2 1
+    ∷ succeeds (release 2 2)
+    ∷ succeeds (setting 0 1 "memory.max" "20480\n")
+    ∷ reads 1 "memory.current" "24576\n"
+    ∷ stopped (charge 5 1) 12 1 2
+    ∷ succeeds (exit 5)
+    ∷ succeeds (remove 0 2)
+    ∷ refuses (release 1 7) 34
+    ∷ succeeds (release 1 6)
+    ∷ []
+    )
+    -- P6 and P7
+    ∷ evening 0 (
+    succeeds (make 0 0 1)
+    ∷ succeeds (control 0 0 "+memory")
+    ∷ succeeds (setting 0 1 "memory.max" "4097")
+    ∷ reads 1 "memory.max" "8192\n"
+    ∷ succeeds (setting 0 1 "memory.max" "0")
+    ∷ reads 1 "memory.max" "0\n"
+    ∷ refuses (setting 0 1 "memory.max" "4503599627370497") 34
+    ∷ reads 1 "memory.max" "0\n"
+    ∷ []
+    )
+    -- P8
+    ∷ evening 0 (
+    succeeds (make 0 0 1)
+    ∷ succeeds (control 0 0 "+cpu")
+    ∷ succeeds (setting 0 1 "cpu.weight" "1")
+    ∷ succeeds (setting 0 1 "cpu.weight" "10000")
+    ∷ refuses (setting 0 1 "cpu.weight" "0") 34
+    ∷ refuses (setting 0 1 "cpu.weight" "10001") 34
+    ∷ refuses (setting 0 1 "cpu.weight" "1 2") 22
+    ∷ reads 1 "cpu.weight" "10000\n"
+    ∷ []
+    )
+    -- P9
+    ∷ evening 0 (
+    succeeds (control 0 0 "+cpu -cpu +memory")
+    ∷ reads 0 "cgroup.subtree_control" "memory\n"
+    ∷ []
+    )
+    -- P10: 1 is the parent; 2 is C0 with C00, which is 4, below it; 3 is C1 with C10, which is 5
+    ∷ evening 0 (
+    succeeds (make 0 0 1)
+    ∷ succeeds (make 0 1 2)
+    ∷ succeeds (make 0 1 3)
+    ∷ succeeds (handOver 0 2 7)
+    ∷ succeeds (handOver 0 3 7)
+    ∷ succeeds (make 7 2 4)
+    ∷ succeeds (make 7 3 5)
+    ∷ succeeds (admit 9 7)
+    ∷ succeeds (procs 0 5 "9")
+    ∷ refuses (procs 7 4 "9") 13
+    ∷ reads 5 "cgroup.procs" "9\n"
+    ∷ []
+    )
+    -- P11
+    ∷ evening 0 (
+    succeeds (make 0 0 3)
+    ∷ succeeds (make 0 3 7)
+    ∷ succeeds (admit 1 0)
+    ∷ succeeds (procs 0 7 "1")
+    ∷ belongs 1 "0::/3/7\n"
+    ∷ []
+    )
+    ∷ []

@@ -1,0 +1,91 @@
+// The public types: what the definitions in specs/ speak of, and what every call takes and answers.
+// There is no code here. The rules are in specs/, why the demands follow from them in proofs/.
+
+// A group's number. Any number can be written; the calls refuse those out of range.
+pub struct GroupId(pub u64);
+
+// A process's number. A type of its own, so that it cannot change places with a group's.
+pub struct ProcessId(pub u64);
+
+// What a limit counts: own pages of groups, or live processes.
+pub enum Resource {
+    Pages,
+    Processes,
+}
+
+// "A limit is either a figure or no limit at all." In pages for memory.max, in processes for pids.max.
+pub enum Limit {
+    NoLimit,
+    Figure(u64),
+}
+
+// The controllers, in the order in which they are listed.
+pub enum Controller {
+    Cpu,
+    Memory,
+    Pids,
+}
+
+// The files that set something: cpu.weight, cpu.max, and the limit of a resource, memory.max or pids.max.
+pub enum Setting {
+    CpuWeight,
+    CpuMax,
+    Max(Resource),
+}
+
+// The files of a group: cgroup.procs, cgroup.controllers, cgroup.subtree_control, cgroup.events,
+// memory.current or pids.current, and the settings.
+pub enum File {
+    Procs,
+    Controllers,
+    SubtreeControl,
+    Events,
+    Current(Resource),
+    Value(Setting),
+}
+
+// The numbers that the host says no with, by their names in document 01's table.
+pub enum Errno {
+    // 2: group not live, file absent there, controller not available
+    Enoent,
+    // 3: no such live process
+    Esrch,
+    // 11: depth limit, or a pids limit stops a fork
+    Eagain,
+    // 12: a memory limit or the machine stops a charge
+    Enomem,
+    // 13: the user may not
+    Eacces,
+    // 16: group in use, or the inner-process rule
+    Ebusy,
+    // 17: number already live
+    Eexist,
+    // 22: number out of range or text malformed
+    Einval,
+    // 28: reply buffer shorter than the reply
+    Enospc,
+    // 34: well-formed figure outside its range, or too many pages released
+    Erange,
+}
+
+// What a call answers that has nothing to tell but success or a refusal.
+pub enum Answer {
+    Done,
+    Refused(Errno),
+}
+
+// What charge and fork answer.
+pub enum RoomAnswer {
+    // the number of groups consulted
+    Granted(u64),
+    // the first group, going up, that had no room, and the number of groups consulted: 12 for a charge, 11 for a fork
+    NoRoom(GroupId, u64),
+    Refused(Errno),
+}
+
+// What a call answers that writes a text into the caller's buffer.
+pub enum ReadAnswer {
+    // the length of the text
+    Text(usize),
+    Refused(Errno),
+}
