@@ -2,7 +2,7 @@
 -- call's arguments and the number it answered, and nothing else. It is written from its own paragraph: it shares types and
 -- the reading of lines with the calls, and none of their effects. Assumes nothing.
 use Prim.Native.Nat.{ℕ, zero, suc, _+_, _-_, min}
-use mathlib.Core.Bool.{Bool, true, false}
+use mathlib.Core.Bool.{true, false}
 use mathlib.Core.List.{List, [], _∷_}
 use mathlib.Core.Option.{Option, none, some}
 use Rattle.model.specs.Functions.{upd, pick}

@@ -2,7 +2,7 @@
 -- order of their checks" and "What a reader sees". A line of the paper with "either" or "or" is two entries with one
 -- number. Assumes nothing.
 use Prim.Native.Nat.{ℕ}
-use mathlib.Core.Bool.{Bool, true, false, not, _&&_}
+use mathlib.Core.Bool.{not, _&&_}
 use mathlib.Core.List.{List, [], _∷_, _++_}
 use mathlib.Core.Option.{Option, none, some}
 use lib.Dec.{eqb, leb, ltb}
@@ -21,7 +21,7 @@ use Rattle.model.specs.Files.{isPresent, contents, membershipLine, fits}
 use Rattle.model.specs.declared.Resource.{Resource}
 use Rattle.model.specs.declared.Resource.the-variants.{Pages, Processes}
 use Rattle.model.specs.declared.Setting.{Setting}
-use Rattle.model.specs.declared.Errno.the-variants.{Enoent, Esrch, Eagain, Enomem, Eacces, Ebusy, Eexist, Einval, Enospc, Erange}
+use Rattle.model.specs.declared.Errno.the-variants.{Enoent, Esrch, Eagain, Eacces, Ebusy, Eexist, Einval, Enospc, Erange}
 use Rattle.model.specs.declared.Answer.{Answer}
 
 -- Lines, file names and reply buffers are bytes of any content and length.

@@ -1,13 +1,13 @@
 -- The three demands, as statements about the definitions. proofs/Demands.antt shows them. Assumes nothing.
 use Prim.Native.Nat.{ℕ, _≤_, max}
-use mathlib.Core.Bool.{Bool, true, false}
+use mathlib.Core.Bool.{true, false}
 use mathlib.Core.List.{List, [], _∷_, _++_}
 use mathlib.Core.Logic.{_≢_}
 use mathlib.Core.Option.{Option, none, some}
 use mathlib.Core.Path.{_≡_}
 use Rattle.model.specs.Checks.{errnoNumber, Says}
-use Rattle.model.specs.Tree.{Tree, Place, at, groupOf, controllerOf, cores, lives, parents, owners, places}
-use Rattle.model.specs.Hierarchy.{inside, amount, Facts, factsOf}
+use Rattle.model.specs.Tree.{Tree, at, groupOf, controllerOf, cores, lives, parents, owners, places}
+use Rattle.model.specs.Hierarchy.{inside, amount, factsOf}
 use Rattle.model.specs.Text.{ended, decimal}
 use Rattle.model.specs.Names.{settingName, fileName}
 use Rattle.model.specs.Settings.{settingController, toFigure}
@@ -25,7 +25,7 @@ use Rattle.model.specs.declared.Setting.{Setting}
 use Rattle.model.specs.declared.File.the-variants.{Current, Value}
 use Rattle.model.specs.declared.Errno.{Errno}
 use Rattle.model.specs.declared.Answer.{Answer}
-use Rattle.model.specs.declared.Answer.the-variants.{Done, Refused}
+use Rattle.model.specs.declared.Answer.the-variants.{Done}
 
 -- a tree that calls can reach from a fresh one of some size
 pub record Reachable (t : Tree) : Type 0 where

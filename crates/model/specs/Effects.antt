@@ -4,16 +4,15 @@ use Prim.Native.Nat.{ℕ, suc, _+_, _-_, min}
 use mathlib.Core.Bool.{Bool, true, false}
 use mathlib.Core.List.{List, [], _∷_}
 use mathlib.Core.Option.{Option, none, some}
-use Rattle.model.specs.Functions.{upd, pick}
+use Rattle.model.specs.Functions.{upd}
 use Rattle.model.specs.Sizes.{largestMachine}
-use Rattle.model.specs.Tree.{Tree, Core, Group, at, noGroup, noProcess, newGroup, withOwn, withCore, withOwner, withSet, withSettings, settingsOf, Controls, atGroup, atProcess, cores, parents, depths, sets}
+use Rattle.model.specs.Tree.{Tree, Group, at, noGroup, noProcess, newGroup, withOwn, withCore, withOwner, withSet, withSettings, settingsOf, Controls, atGroup, atProcess, cores, parents, depths, sets}
 use Rattle.model.specs.Hierarchy.{childOf}
 use Rattle.model.specs.Control.{asked, setAfter}
 use Rattle.model.specs.Settings.{Value, put, reset}
 use Rattle.model.specs.Rules.{processGroup, lineProcess, leaving}
 use Rattle.model.specs.Calls.{Call, make, remove, handOver, writeProcs, writeControl, writeSetting, admit, fork, exit, charge, release, read, membership, lineValue, verdict}
 use Rattle.model.specs.declared.Controller.{Controller}
-use Rattle.model.specs.declared.Answer.{Answer}
 use Rattle.model.specs.declared.Answer.the-variants.{Done, Refused}
 
 -- a group with n own pages more, or with so many

@@ -1,8 +1,7 @@
 -- What each call answers and what it leaves in the reply buffer: document 01, "The numbers we say no with", the sentence
 -- after charge and release, and "What a reader sees". Assumes nothing.
 use Prim.Native.Nat.{ℕ}
-use mathlib.Core.Bool.{Bool, true, false}
-use mathlib.Core.List.{List, [], _∷_}
+use mathlib.Core.List.{List, []}
 use mathlib.Core.Option.{Option, none, some}
 use lib.ListN.{length}
 use Rattle.model.specs.Checks.{errnoNumber, answerNumber, first}
@@ -11,8 +10,7 @@ use Rattle.model.specs.Hierarchy.{Facts, factsOf}
 use Rattle.model.specs.Rooms.{Room, room, full, roomFor, shortage}
 use Rattle.model.specs.Rules.{processGroup}
 use Rattle.model.specs.Files.{membershipLine, delivered}
-use Rattle.model.specs.Calls.{Call, make, remove, handOver, writeProcs, writeControl, writeSetting, admit, fork, exit, charge, release, read, membership, chargeChecks, forkChecks, checks, verdict, fileText}
-use Rattle.model.specs.declared.GroupId.{GroupId}
+use Rattle.model.specs.Calls.{Call, make, remove, handOver, writeProcs, writeControl, writeSetting, admit, fork, exit, charge, release, read, membership, chargeChecks, forkChecks, verdict, fileText}
 use Rattle.model.specs.declared.Resource.{Resource}
 use Rattle.model.specs.declared.Resource.the-variants.{Pages, Processes}
 use Rattle.model.specs.declared.Answer.{Answer}

@@ -1,15 +1,15 @@
 -- The tests that the checks are made of. Assumes nothing.
 use Prim.Native.Nat.{ℕ}
-use mathlib.Core.Bool.{Bool, true, false, not, _&&_, _||_}
+use mathlib.Core.Bool.{Bool, false, not, _&&_, _||_}
 use mathlib.Core.List.{List, [], _∷_}
-use mathlib.Core.Option.{Option, none, some}
-use lib.Dec.{eqb, leb, ltb}
-use Rattle.model.specs.Functions.{any, orElse, passes}
-use Rattle.model.specs.Sizes.{groups, processes, largestCharge}
-use Rattle.model.specs.Tree.{Tree, Place, nowhere, at, groupOf, cores, lives, parents, owners, sets, places}
+use mathlib.Core.Option.{Option, none}
+use lib.Dec.{eqb, leb}
+use Rattle.model.specs.Functions.{any, orElse}
+use Rattle.model.specs.Sizes.{groups, processes}
+use Rattle.model.specs.Tree.{Tree, Place, nowhere, at, groupOf, cores, parents, owners, sets, places}
 use Rattle.model.specs.Hierarchy.{childOf, commonAncestor}
 use Rattle.model.specs.Text.{numberWord, lineWords}
-use Rattle.model.specs.Control.{Ask, asked, joins, leaves}
+use Rattle.model.specs.Control.{asked, joins, leaves}
 use Rattle.model.specs.declared.Controller.{Controller}
 
 -- numbers out of range

@@ -2,14 +2,14 @@
 -- "Settings and defaults". A value is read in three steps, as the paper's two refusals ask: its form, its range, its effect.
 -- Assumes nothing.
 use Prim.Native.Nat.{ℕ, _+_, _-_, _*_, _/_}
-use mathlib.Core.Bool.{Bool, true, false, _&&_}
+use mathlib.Core.Bool.{Bool, true, _&&_}
 use mathlib.Core.List.{List, [], _∷_, _++_}
 use mathlib.Core.Option.{Option, none, some}
 use mathlib.Core.Path.{_≡_}
 use lib.Dec.{leb}
 use Rattle.model.specs.Functions.{pick, mapped}
 use Rattle.model.specs.Sizes.{pageBytes}
-use Rattle.model.specs.Tree.{CpuSettings, defaultCpu, Settings, withLimit, controllerOf}
+use Rattle.model.specs.Tree.{defaultCpu, Settings, withLimit, controllerOf}
 use Rattle.model.specs.Text.{bytes, space, sameBytes, numberWord, decimal}
 use Rattle.model.specs.declared.Resource.{Resource}
 use Rattle.model.specs.declared.Resource.the-variants.{Pages, Processes}

@@ -1,7 +1,7 @@
 -- The cases of document 01, "Evenings we have worked through", that are marked P: calls with the whole reply that each
 -- must get, from the bytes of the lines to the bytes of the reply buffer. proofs/Worked.antt shows that all hold.
 -- Assumes nothing.
-use Prim.Native.Nat.{ℕ, zero, suc}
+use Prim.Native.Nat.{ℕ}
 use Prim.Native.String.{String}
 use mathlib.Core.Bool.{Bool, true, false, _&&_}
 use mathlib.Core.List.{List, [], _∷_, _++_}
@@ -10,7 +10,7 @@ use lib.Dec.{eqb}
 use lib.ListN.{length}
 use Rattle.model.specs.Tree.{Tree}
 use Rattle.model.specs.Text.{bytes, sameBytes}
-use Rattle.model.specs.Calls.{Call, make, remove, handOver, writeProcs, writeControl, writeSetting, admit, fork, exit, charge, release, read, membership}
+use Rattle.model.specs.Calls.{Call, make, remove, handOver, writeProcs, writeControl, writeSetting, admit, exit, charge, release, read, membership}
 use Rattle.model.specs.Effects.{step, fresh}
 use Rattle.model.specs.Replies.{Reply, reply}
 

@@ -1,0 +1,207 @@
+-- The tree and the book of demand 3 keep the same of groups and places after every call. The one call where this is not
+-- plain is a control line: the book goes by the last word, the tree by what leaves the set. Assumes nothing.
+use Prim.Native.Nat.{ℕ}
+use mathlib.Core.Bool.{Bool, true, false, _&&_}
+use mathlib.Core.List.{List, [], _∷_, _++_}
+use mathlib.Core.Option.{Option, none, some}
+use mathlib.Core.Path.{_≡_, refl, ap, ap₂, sym, _∙_, fun-ext, subst}
+use Rattle.model.specs.Functions.{pick}
+use Rattle.model.specs.Checks.{errnoNumber, answerNumber, first, Check}
+use Rattle.model.specs.Tree.{Tree, Core, Settings, settingsOf, controllerOf, withLimits, noGroup, atGroup, cores, parents, sets, settingsAt, places}
+use Rattle.model.specs.Hierarchy.{childOf, factsOf}
+use Rattle.model.specs.Control.{asked, isDropped}
+use Rattle.model.specs.Settings.{Value, weight, bandwidth, max, put, reset}
+use Rattle.model.specs.Rooms.{Room, room, full, roomFor, isFull, shortage}
+use Rattle.model.specs.Rules.{processGroup, lineProcess, leaving}
+use Rattle.model.specs.Calls.{Call, make, remove, handOver, writeProcs, writeControl, writeSetting, admit, fork, exit, charge, release, read, membership, lineValue, chargeChecks, forkChecks, checks, verdict}
+use Rattle.model.specs.Effects.{newSet, controlled, written, effect, step, fresh, run}
+use Rattle.model.specs.Replies.{roomAnswer, chargeAnswer, forkAnswer, roomNumber, readAnswer, readNumber, reply}
+use Rattle.model.specs.Book.{Book, limitsAfter, childAfter, enterValue, enter, bookStep, freshBook, fed}
+use Rattle.model.specs.WellFormed.{WellFormed}
+use Rattle.model.specs.Demands.{log, treeAfter, bookAfter}
+use Rattle.model.specs.declared.Resource.{Resource}
+use Rattle.model.specs.declared.Resource.the-variants.{Pages, Processes}
+use Rattle.model.specs.declared.Limit.{Limit}
+use Rattle.model.specs.declared.Limit.the-variants.{NoLimit}
+use Rattle.model.specs.declared.Errno.{Errno}
+use Rattle.model.specs.declared.Errno.the-variants.{Enoent, Esrch, Eagain, Enomem, Eacces, Ebusy, Eexist, Einval, Enospc, Erange}
+use Rattle.model.specs.declared.Answer.{Answer}
+use Rattle.model.specs.declared.Answer.the-variants.{Done, Refused}
+use Rattle.model.proofs.FunctionLaws.{split, upd-map, upd-keeps}
+use Rattle.model.proofs.CheckLaws.{first-append, andThen}
+use Rattle.model.proofs.ControlLaws.{leave-dropped}
+use Rattle.model.proofs.RoomLaws.{default-limit}
+use Rattle.model.proofs.RuleLaws.{on-other}
+use Rattle.model.proofs.Preservation.{cores-after-remove}
+use Rattle.model.proofs.ControlPreservation.{child-live, child-parent, child-not-root, reset-child, reset-other}
+
+-- The number of a reply is that of the verdict.
+read-number : (a : Answer) (text : List ℕ) → readNumber (readAnswer a text) ≡ answerNumber a
+read-number Done text = refl
+read-number (Refused e) text = refl
+
+room-number : (r : Resource) (cs : List Check) (x : Room)
+    → roomNumber r (roomAnswer (first cs) x) ≡ answerNumber (first (cs ++ (Check.bar (isFull x) (shortage r) ∷ [])))
+unfolding first
+room-number r cs x = go (first cs) x ∙ ap answerNumber (sym (first-append cs (Check.bar (isFull x) (shortage r) ∷ [])))
+  where
+    go : (a : Answer) (x : Room) → roomNumber r (roomAnswer a x) ≡ answerNumber (andThen a (first (Check.bar (isFull x) (shortage r) ∷ [])))
+    go Done (room k) = refl
+    go Done (full g k) = refl
+    go (Refused e) x = refl
+
+pub reply-number : (t : Tree) (c : Call) → reply t c .number ≡ answerNumber (verdict t c)
+unfolding reply verdict chargeAnswer forkAnswer checks
+reply-number t (make user parent new) = refl
+reply-number t (remove user g) = refl
+reply-number t (handOver user g owner) = refl
+reply-number t (writeProcs user g line) = refl
+reply-number t (writeControl user g line) = refl
+reply-number t (writeSetting user g file line) = refl
+reply-number t (admit p user) = refl
+reply-number t (fork p new) = room-number Processes (forkChecks t p new) (roomFor (factsOf t) Processes 1 (processGroup t p))
+reply-number t (exit p) = refl
+reply-number t (charge p n) = room-number Pages (chargeChecks t p n) (roomFor (factsOf t) Pages n (processGroup t p))
+reply-number t (release g n) = refl
+reply-number t (read g file buffer) = read-number (verdict t (read g file buffer)) _
+reply-number t (membership p buffer) = read-number (verdict t (membership p buffer)) _
+
+-- What the two keep is the same.
+pub record Same (t : Tree) (b : Book) : Type 0 where
+  pub machine : t .machine ≡ b .machine
+  pub groups : cores t ≡ b .group
+  pub places : places t ≡ b .place
+
+-- the book of a tree, with marks
+abbrev pub bookOf : Tree → (ℕ → ℕ) → Book
+bookOf t mark = record { machine = t .machine; group = cores t; mark = mark; place = places t }
+
+pub book-of-same : (t : Tree) (b : Book) → Same t b → bookOf t (b .mark) ≡ b
+book-of-same t b s = λ i. record { machine = s .machine i; group = s .groups i; mark = b .mark; place = s .places i }
+
+-- A control line: where a controller was not in the set, the children have no limit to lose.
+module _ (t : Tree) (w : WellFormed t) (g : ℕ) (line : List ℕ) where
+  lost : (b : Bool) (r : Resource) (l : Limit) → (b ≡ false → l ≡ NoLimit)
+      → pick (isDropped (asked line (controllerOf r)) && b) NoLimit l ≡ pick (isDropped (asked line (controllerOf r))) NoLimit l
+  lost b r l h = go (isDropped (asked line (controllerOf r))) b h
+    where
+      go : (d b : Bool) → (b ≡ false → l ≡ NoLimit) → pick (d && b) NoLimit l ≡ pick d NoLimit l
+      go true true h = refl
+      go true false h = h refl
+      go false b h = refl
+
+  child-limit : (k : ℕ) → childOf g k (cores t k) ≡ true → (r : Resource) → sets t g (controllerOf r) ≡ false → t .group k .core .limit r ≡ NoLimit
+  child-limit k y r n =
+      default-limit t r k
+      (w .defaults .off (controllerOf r) k (child-live g k (cores t k) y)
+      (on-other (parents t) (sets t) (controllerOf r) k (child-not-root g k (cores t k) y) ∙ rw (child-parent g k (cores t k) y) n))
+
+  child-same : (k : ℕ) → childOf g k (cores t k) ≡ true
+      → withLimits (reset (leaving t g line) (settingsAt t k) .limit) (cores t k) ≡ withLimits (limitsAfter line (t .group k .core .limit)) (cores t k)
+  unfolding reset
+  child-same k y =
+      ap (λ (l : Resource → Limit). withLimits l (cores t k))
+      (fun-ext
+      (λ r. ap (λ d. pick d NoLimit (t .group k .core .limit r)) (leave-dropped (sets t g (controllerOf r)) (asked line (controllerOf r)))
+      ∙ lost (sets t g (controllerOf r)) r (t .group k .core .limit r) (child-limit k y r)))
+
+  -- the tree's side, then the book's
+  core-of-child : (k : ℕ) → childOf g k (cores t k) ≡ true
+      → cores (controlled t g (newSet t g line) (leaving t g line)) k ≡ withLimits (reset (leaving t g line) (settingsAt t k) .limit) (cores t k)
+  core-of-child k y =
+      ap (λ x. x .core) (reset-child t g (leaving t g line) k _ y)
+      ∙ ap₂ (λ (s : Settings) (c : Core). withLimits (reset (leaving t g line) s .limit) c)
+      (upd-keeps settingsOf (t .group) g _ refl k) (upd-keeps (λ x. x .core) (t .group) g _ refl k)
+
+  core-of-other : (k : ℕ) → childOf g k (cores t k) ≡ false → cores (controlled t g (newSet t g line) (leaving t g line)) k ≡ cores t k
+  core-of-other k n = ap (λ x. x .core) (reset-other t g (leaving t g line) k _ n) ∙ upd-keeps (λ x. x .core) (t .group) g _ refl k
+
+  entry-of-child : (k : ℕ) → childOf g k (cores t k) ≡ true → withLimits (limitsAfter line (t .group k .core .limit)) (cores t k) ≡ childAfter g line k (cores t k)
+  entry-of-child k y = rw (y, childAfter)
+
+  entry-of-other : (k : ℕ) → childOf g k (cores t k) ≡ false → cores t k ≡ childAfter g line k (cores t k)
+  entry-of-other k n = rw (n, childAfter)
+
+  pub cores-after-control : (k : ℕ) → cores (controlled t g (newSet t g line) (leaving t g line)) k ≡ childAfter g line k (cores t k)
+  cores-after-control k =
+      split (childOf g k (cores t k))
+      (λ y. core-of-child k y ∙ child-same k y ∙ entry-of-child k y)
+      (λ n. core-of-other k n ∙ entry-of-other k n)
+
+-- A setting: only the two limits are kept in the book.
+module _ (t : Tree) (mark : ℕ → ℕ) (g : ℕ) where
+  same-after-value : (v : Option Value) → Same (atGroup t g (written v (t .group g))) (enterValue (bookOf t mark) g v)
+  unfolding put
+  same-after-value none = record { machine = refl; groups = fun-ext (upd-keeps (λ x. x .core) (t .group) g _ refl); places = refl }
+  same-after-value (some (weight n)) = record { machine = refl; groups = fun-ext (upd-keeps (λ x. x .core) (t .group) g _ refl); places = refl }
+  same-after-value (some (bandwidth q none)) = record { machine = refl; groups = fun-ext (upd-keeps (λ x. x .core) (t .group) g _ refl); places = refl }
+  same-after-value (some (bandwidth q (some p))) = record { machine = refl; groups = fun-ext (upd-keeps (λ x. x .core) (t .group) g _ refl); places = refl }
+  same-after-value (some (max r l)) = record { machine = refl; groups = upd-map (λ x. x .core) (t .group) g _; places = refl }
+
+pub same-effect : (t : Tree) (mark : ℕ → ℕ) (c : Call) → WellFormed t → Same (effect t c) (enter (bookOf t mark) c)
+unfolding effect enter
+same-effect t mark (make user parent new) w = record { machine = refl; groups = upd-map (λ x. x .core) (t .group) new _; places = refl }
+same-effect t mark (remove user g) w =
+    record { machine = refl; groups = cores-after-remove t g; places = refl }
+same-effect t mark (handOver user g owner) w =
+    record { machine = refl; groups = fun-ext (upd-keeps (λ x. x .core) (t .group) g _ refl); places = refl }
+same-effect t mark (writeProcs user g line) w =
+    record { machine = refl; groups = refl; places = upd-map (λ x. x .place) (t .process) (lineProcess line) _ }
+same-effect t mark (writeControl user g line) w =
+    record { machine = refl; groups = fun-ext (cores-after-control t w g line); places = refl }
+same-effect t mark (writeSetting user g file line) w = same-after-value t mark g (lineValue file line)
+same-effect t mark (admit p user) w = record { machine = refl; groups = refl; places = upd-map (λ x. x .place) (t .process) p _ }
+same-effect t mark (fork p new) w = record { machine = refl; groups = refl; places = upd-map (λ x. x .place) (t .process) new _ }
+same-effect t mark (exit p) w = record { machine = refl; groups = refl; places = upd-map (λ x. x .place) (t .process) p _ }
+same-effect t mark (charge p n) w =
+    record { machine = refl; groups = upd-map (λ x. x .core) (t .group) (processGroup t p) _; places = refl }
+same-effect t mark (release g n) w = record { machine = refl; groups = upd-map (λ x. x .core) (t .group) g _; places = refl }
+same-effect t mark (read g file buffer) w = record { machine = refl; groups = refl; places = refl }
+same-effect t mark (membership p buffer) w = record { machine = refl; groups = refl; places = refl }
+
+pub same-enter : (t : Tree) (b : Book) (c : Call) → WellFormed t → Same t b → Same (effect t c) (enter b c)
+same-enter t b c w s = subst (λ (x : Book). Same (effect t c) (enter x c)) (book-of-same t b s) (same-effect t (b .mark) c w)
+
+-- No step for a refused call.
+book-refused : (b : Book) (c : Call) (e : Errno) → bookStep b c (errnoNumber e) ≡ b
+unfolding bookStep
+book-refused b c Enoent = refl
+book-refused b c Esrch = refl
+book-refused b c Eagain = refl
+book-refused b c Enomem = refl
+book-refused b c Eacces = refl
+book-refused b c Ebusy = refl
+book-refused b c Eexist = refl
+book-refused b c Einval = refl
+book-refused b c Enospc = refl
+book-refused b c Erange = refl
+
+pub book-step-accepted : (t : Tree) (b : Book) (c : Call) → verdict t c ≡ Done → bookStep b c (reply t c .number) ≡ enter b c
+unfolding bookStep
+book-step-accepted t b c e = ap (bookStep b c) (reply-number t c ∙ ap answerNumber e)
+
+pub book-step-refused : (t : Tree) (b : Book) (c : Call) (x : Errno) → verdict t c ≡ Refused x → bookStep b c (reply t c .number) ≡ b
+book-step-refused t b c x e = ap (bookStep b c) (reply-number t c ∙ ap answerNumber e) ∙ book-refused b c x
+
+pub same-fresh : (m : ℕ) → Same (fresh m) (freshBook m)
+unfolding fresh freshBook
+same-fresh m = record { machine = refl; groups = upd-map (λ x. x .core) (λ g. noGroup) 0 _; places = refl }
+
+-- One call more.
+run-more : (cs : List Call) (t : Tree) (c : Call) → run t (cs ++ (c ∷ [])) ≡ step (run t cs) c
+unfolding run
+run-more [] t c = refl
+run-more (x ∷ xs) t c = run-more xs (step t x) c
+
+pub tree-after-more : (m : ℕ) (cs : List Call) (c : Call) → treeAfter m (cs ++ (c ∷ [])) ≡ step (treeAfter m cs) c
+tree-after-more m cs c = run-more cs (fresh m) c
+
+fed-more : (cs : List Call) (t : Tree) (b : Book) (c : Call)
+    → fed b (log t (cs ++ (c ∷ []))) ≡ bookStep (fed b (log t cs)) c (reply (run t cs) c .number)
+unfolding fed log run
+fed-more [] t b c = refl
+fed-more (x ∷ xs) t b c = fed-more xs (step t x) (bookStep b x (reply t x .number)) c
+
+pub book-after-more : (m : ℕ) (cs : List Call) (c : Call)
+    → bookAfter m (cs ++ (c ∷ [])) ≡ bookStep (bookAfter m cs) c (reply (treeAfter m cs) c .number)
+book-after-more m cs c = fed-more cs (fresh m) (freshBook m) c

@@ -1,0 +1,39 @@
+-- Laws of the names of controllers, settings and files: each name finds what it names, by computation.
+-- Assumes nothing.
+use mathlib.Core.Option.{some}
+use mathlib.Core.Path.{_≡_, refl}
+use Rattle.model.specs.Text.{sameBytes}
+use Rattle.model.specs.Names.{controllerName, settingName, fileName, named, controllerNamed, settingNamed, fileNamed}
+use Rattle.model.specs.declared.Resource.the-variants.{Pages, Processes}
+use Rattle.model.specs.declared.Controller.{Controller}
+use Rattle.model.specs.declared.Controller.the-variants.{Cpu, Memory, Pids}
+use Rattle.model.specs.declared.Setting.{Setting}
+use Rattle.model.specs.declared.Setting.the-variants.{CpuWeight, CpuMax, Max}
+use Rattle.model.specs.declared.File.{File}
+use Rattle.model.specs.declared.File.the-variants.{Procs, Controllers, SubtreeControl, Events, Current, Value}
+
+pub controllerNamed-controllerName : (c : Controller) → controllerNamed (controllerName c) ≡ some c
+unfolding named sameBytes
+controllerNamed-controllerName Cpu = refl
+controllerNamed-controllerName Memory = refl
+controllerNamed-controllerName Pids = refl
+
+pub settingNamed-settingName : (s : Setting) → settingNamed (settingName s) ≡ some s
+unfolding named sameBytes
+settingNamed-settingName CpuWeight = refl
+settingNamed-settingName CpuMax = refl
+settingNamed-settingName (Max Pages) = refl
+settingNamed-settingName (Max Processes) = refl
+
+pub fileNamed-fileName : (f : File) → fileNamed (fileName f) ≡ some f
+unfolding named sameBytes
+fileNamed-fileName Procs = refl
+fileNamed-fileName Controllers = refl
+fileNamed-fileName SubtreeControl = refl
+fileNamed-fileName Events = refl
+fileNamed-fileName (Current Pages) = refl
+fileNamed-fileName (Current Processes) = refl
+fileNamed-fileName (Value CpuWeight) = refl
+fileNamed-fileName (Value CpuMax) = refl
+fileNamed-fileName (Value (Max Pages)) = refl
+fileNamed-fileName (Value (Max Processes)) = refl

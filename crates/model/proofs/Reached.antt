@@ -1,0 +1,79 @@
+-- Every tree that calls can reach is well formed, and every call hands back such a tree. Assumes nothing.
+use Prim.Native.Nat.{ℕ}
+use native.Mathlib.Omega.{arith}
+use mathlib.Core.Bool.{true, false}
+use mathlib.Core.List.{[], _∷_, _++_}
+use mathlib.Core.Path.{_≡_, refl, ap, sym, _∙_, subst}
+use Rattle.model.specs.Sizes.{groups}
+use Rattle.model.specs.Tree.{Tree, noGroup, newGroup, lives}
+use Rattle.model.specs.Calls.{Call}
+use Rattle.model.specs.Effects.{step, fresh, run}
+use Rattle.model.specs.WellFormed.{WellFormed}
+use Rattle.model.specs.Demands.{Reachable}
+use Rattle.model.proofs.FunctionLaws.{whether, clash, upd-same, upd-other, upd-map, upd-all}
+use Rattle.model.proofs.AmountLaws.{usage-fresh}
+use Rattle.model.proofs.SettingLaws.{default-new, range-new}
+use Rattle.model.proofs.Steps.{well-formed-run}
+use Rattle.model.proofs.Books.{tree-after-more}
+
+module _ (m : ℕ) where
+  -- the root alone is live
+  only-root : (g : ℕ) → lives (fresh m) g ≡ true → g ≡ 0
+  unfolding fresh
+  only-root g h = whether g 0 (λ e. e) (λ ne. clash false (sym (ap (λ x. x .core .live) (upd-other (λ (x : ℕ). noGroup) 0 (newGroup 0 0 0) g ne)) ∙ h) refl)
+
+  root-new : fresh m .group 0 ≡ newGroup 0 0 0
+  unfolding fresh
+  root-new = upd-same (λ (x : ℕ). noGroup) 0 (newGroup 0 0 0)
+
+  pub well-formed-fresh : WellFormed (fresh m)
+  unfolding fresh groups
+  well-formed-fresh =
+      record {
+        sound =
+            record {
+              root = ap (λ x. x .core .live) root-new;
+              top = ap (λ x. x .core .parent) root-new;
+              level = ap (λ x. x .depth) root-new;
+              range = λ g l. omega (arith, only-root g l);
+              above = λ g l nz. absurd (nz (only-root g l));
+              deeper = λ g l nz. absurd (nz (only-root g l));
+              shallow = λ g l. rw (only-root g l) (omega (arith, ap (λ x. x .depth) root-new));
+            };
+        placed =
+            record {
+              group = λ p g e. let z : _≡_ {A = ℕ} 0 1 = cc in absurd (omega arith);
+              range = λ p g e. let z : _≡_ {A = ℕ} 0 1 = cc in absurd (omega arith);
+              none = refl;
+            };
+        topDown = record { within = λ c g l nz h. absurd (nz (only-root g l)) };
+        defaults = record { off = λ c g l o. rw (only-root g l, root-new) (default-new c) };
+        ranges = record { within = λ s g l. rw (only-root g l, root-new) (range-new s) };
+        quiet = record { empty = λ p g e nz c. let z : _≡_ {A = ℕ} 0 1 = cc in absurd (omega arith) };
+        blank =
+            record {
+              groups = upd-all (λ j x. x .core .live ≡ false → x ≡ noGroup) (λ (g : ℕ). noGroup) 0 (newGroup 0 0 0) (λ h. clash true refl h) (λ j _ _. refl);
+              processes = λ p e. refl;
+            };
+        owned = ap (λ x. x .owner) root-new;
+        sized =
+            record {
+              size = omega arith;
+              fits = rw (upd-map (λ x. x .core) (λ (g : ℕ). noGroup) 0 (newGroup 0 0 0)) (omega (arith, usage-fresh 0));
+            };
+      }
+
+pub well-formed-reached : (t : Tree) → Reachable t → WellFormed t
+well-formed-reached t r = subst WellFormed (r .made) (well-formed-run (r .calls) (fresh (r .size)) (well-formed-fresh (r .size)))
+
+pub reached-fresh : (m : ℕ) → Reachable (fresh m)
+unfolding run
+reached-fresh m = record { size = m; calls = []; made = refl }
+
+pub reached-step : (t : Tree) (c : Call) → Reachable t → Reachable (step t c)
+reached-step t c r =
+    record {
+      size = r .size;
+      calls = r .calls ++ (c ∷ []);
+      made = tree-after-more (r .size) (r .calls) c ∙ ap (λ x. step x c) (r .made);
+    }

@@ -1,0 +1,252 @@
+-- Every accepted call leaves a well-formed tree well formed, so every tree that calls can reach is. Assumes nothing.
+use Prim.Native.Nat.{ℕ, _+_, _≤_}
+use native.Mathlib.Omega.{arith}
+use mathlib.Core.Bool.{true, false, not, _&&_}
+use mathlib.Core.List.{List, [], _∷_}
+use mathlib.Core.Logic.{_≢_}
+use mathlib.Core.Option.{Option, none, some}
+use mathlib.Core.Path.{_≡_, refl, ap, sym, _∙_}
+use lib.Dec.{eqb}
+use borrow.Author.Tests.{eqb-false, eq-eqb, ne-eqb, leb-false, ltb-false}
+use Rattle.model.specs.Functions.{upd, passes, known}
+use Rattle.model.specs.Sizes.{groups, processes}
+use Rattle.model.specs.Checks.{Pass}
+use Rattle.model.specs.Tree.{Tree, Core, Group, at, isLive, settingsOf, atGroup, cores, lives, parents, depths, sets, settingsAt, places}
+use Rattle.model.specs.Hierarchy.{childOf, ownPages, usage, factsOf}
+use Rattle.model.specs.Control.{asked, isWanted, anyController}
+use Rattle.model.specs.Settings.{settingController, Value, inRange, valueOf}
+use Rattle.model.specs.Text.{lineWords}
+use Rattle.model.specs.Rooms.{over, actingLimit}
+use Rattle.model.specs.Names.{settingNamed}
+use Rattle.model.specs.Rules.{on, available, standsIn, processGroup, hasChild, hasProcess, heldByChild, lineProcess, joining, leaving}
+use Rattle.model.specs.Calls.{Call, make, remove, handOver, writeProcs, writeControl, writeSetting, admit, fork, exit, charge, release, read, membership, settingValue, chargeChecks, forkChecks, checks, verdict}
+use Rattle.model.specs.Effects.{charged, uncharged, newSet, controlled, written, effect, step, run}
+use Rattle.model.specs.WellFormed.{onIn, WellFormed}
+use Rattle.model.specs.declared.Resource.the-variants.{Pages}
+use Rattle.model.specs.declared.Controller.{Controller}
+use Rattle.model.specs.declared.Setting.{Setting}
+use Rattle.model.specs.declared.Errno.{Errno}
+use Rattle.model.specs.declared.Answer.{Answer}
+use Rattle.model.specs.declared.Answer.the-variants.{Done, Refused}
+use Rattle.model.proofs.FunctionLaws.{split, clash, and-false, not-false, upd-keeps, any-none, weigh-yes}
+use Rattle.model.proofs.CheckLaws.{first-pass}
+use Rattle.model.proofs.ChainLaws.{root-inside}
+use Rattle.model.proofs.AmountLaws.{place-live, usage-same, usage-after-charge, usage-after-release}
+use Rattle.model.proofs.ControlLaws.{any-controller-none, set-after-true, join-none, leave-true}
+use Rattle.model.proofs.SettingLaws.{default-new, range-new, default-after-put, range-after-put}
+use Rattle.model.proofs.RoomLaws.{room-on-chain, over-figure, machine-acts}
+use Rattle.model.proofs.RuleLaws.{NoChild}
+use Rattle.model.proofs.Preservation.{Patch, well-formed-after-patch, well-formed-after-place, well-formed-after-make, well-formed-after-remove}
+use Rattle.model.proofs.ControlPreservation.{child-of, well-formed-after-control}
+
+-- A step by its verdict.
+pub step-accepted : (t : Tree) (c : Call) → verdict t c ≡ Done → step t c ≡ effect t c
+unfolding step
+step-accepted t c e = rw (e, step)
+
+pub step-refused : (t : Tree) (c : Call) (x : Errno) → verdict t c ≡ Refused x → step t c ≡ t
+unfolding step
+step-refused t c x e = rw (e, step)
+
+-- by cases on the verdict
+pub by-verdict : {A : Type 0} (t : Tree) (c : Call) → (verdict t c ≡ Done → A) → ((e : Errno) → verdict t c ≡ Refused e → A) → A
+by-verdict {A} t c f g = go (verdict t c) refl
+  where
+    go : (a : Answer) → verdict t c ≡ a → A
+    go Done e = f e
+    go (Refused x) e = g x e
+
+pub passed : (t : Tree) (c : Call) → verdict t c ≡ Done → Pass (checks (factsOf t) c)
+unfolding verdict
+passed t c e = first-pass (checks (factsOf t) c) e
+
+-- What the tests say.
+module _ (t : Tree) (w : WellFormed t) where
+  pub no-child : (g : ℕ) → hasChild t g ≡ false → NoChild (lives t) (parents t) g
+  unfolding hasChild
+  no-child g h c l nz e =
+      clash (childOf g c (cores t c)) (child-of g c (cores t c) l nz e)
+      (any-none groups (λ k. childOf g k (cores t k)) h c (w .sound .range c l))
+
+  pub no-process : (g : ℕ) → hasProcess t g ≡ false → (p : ℕ) → places t p ≢ at g
+  unfolding hasProcess
+  no-process g h p e =
+      clash (standsIn (places t p) g) (rw (e, standsIn) (eq-eqb g g refl))
+      (any-none processes (λ q. standsIn (places t q) g) h p (w .placed .range p g e))
+
+  pub process-lives : (p : ℕ) → isLive (places t p) ≡ true → lives t (processGroup t p) ≡ true
+  process-lives p l = w .placed .group p (processGroup t p) (place-live (places t p) l)
+
+  pub process-number : (p : ℕ) → isLive (places t p) ≡ true → p ≢ 0
+  process-number p l e = clash (isLive (places t p)) l (rw e (ap isLive (w .placed .none)))
+
+  -- a group with other settings, owner or own pages; the settings' rules hold where they are as before
+  patch-same : (g : ℕ) (v : Group) → lives t g ≡ true → v .core .live ≡ true → v .core .parent ≡ parents t g → v .depth ≡ depths t g → v .set ≡ sets t g
+      → (g ≡ 0 → v .owner ≡ 0) → settingsOf v ≡ settingsAt t g → usage (upd (cores t) g (v .core)) 0 ≤ t .machine → Patch t g v
+  patch-same g v l a b c d o e f =
+      record {
+        alive = l;
+        live = a;
+        parent = b;
+        depth = c;
+        set = d;
+        owner = o;
+        defaults = λ x h. rw e (w .defaults .off x g l h);
+        ranges = λ s. rw e (w .ranges .within s g l);
+        fits = f;
+      }
+
+  root-owner : (g : ℕ) → g ≡ 0 → t .group g .owner ≡ 0
+  root-owner g e = rw e (w .owned)
+
+  -- own pages as before
+  same-pages : (g : ℕ) (v : Core) → v .parent ≡ parents t g → ownPages v ≡ ownPages (cores t g) → usage (upd (cores t) g v) 0 ≤ t .machine
+  same-pages g v e f =
+      rw (usage-same (cores t) (upd (cores t) g v) (upd-keeps (λ c. c .parent) (cores t) g v e) (upd-keeps ownPages (cores t) g v f) 0) (w .sized .fits)
+
+  -- a controller that is off, where a setting's controller is on
+  controller-apart : (s : Setting) (c : Controller) (g : ℕ) → onIn (parents t) (sets t) (settingController s) g ≡ true
+      → onIn (parents t) (sets t) c g ≡ false → settingController s ≢ c
+  controller-apart s c g y n e = clash (onIn (parents t) (sets t) c g) (rw e at y) n
+
+  -- a setting written
+  kept-value : (g : ℕ) (s : Setting) (ws : List (List ℕ)) (v : Option Value) → valueOf s ws ≡ v → lives t g ≡ true
+      → on t (settingController s) g ≡ true → known v ≡ true → passes v inRange ≡ true → WellFormed (atGroup t g (written v (t .group g)))
+  kept-value g s ws none e l o k r = clash false k refl
+  kept-value g s ws (some v) e l o k r =
+      well-formed-after-patch t w g _
+      (record {
+        alive = l;
+        live = l;
+        parent = refl;
+        depth = refl;
+        set = refl;
+        owner = root-owner g;
+        defaults =
+            λ c h. default-after-put s ws v c (settingsAt t g) e (controller-apart s c g o h) (w .defaults .off c g l h);
+        ranges = λ x. range-after-put v (settingsAt t g) r (λ y. w .ranges .within y g l) x;
+        fits = same-pages g _ refl refl;
+      })
+
+  kept-setting : (g : ℕ) (named : Option Setting) (line : List ℕ) → lives t g ≡ true → passes named (λ s. on t (settingController s) g) ≡ true
+      → known (settingValue named line) ≡ true → passes (settingValue named line) inRange ≡ true
+      → WellFormed (atGroup t g (written (settingValue named line) (t .group g)))
+  kept-setting g none line l o k r = clash false k refl
+  kept-setting g (some s) line l o k r = kept-value g s (lineWords line) (valueOf s (lineWords line)) refl l o k r
+
+  -- a control line's set and what leaves it
+  module _ (g : ℕ) (line : List ℕ) (l : lives t g ≡ true)
+      (want : anyController (λ c. isWanted (asked line c) && not (available t c g)) ≡ false)
+      (held : anyController (λ c. leaving t g line c && heldByChild t g c) ≡ false)
+      (join : (not (eqb g 0) && (hasProcess t g && anyController (joining t g line))) ≡ false) where
+    set-available : (c : Controller) → newSet t g line c ≡ true → g ≢ 0 → sets t (parents t g) c ≡ true
+    set-available c h nz =
+        set-after-true (sets t g c) (asked line c) h
+        (λ old. w .topDown .within c g l nz old)
+        (λ a. let q : (isWanted (asked line c) && not (available t c g)) ≡ false = any-controller-none _ want c in
+        let y : available t c g ≡ true = not-false (available t c g) (and-false (isWanted (asked line c)) _ q (rw a)) in
+        rw (ne-eqb g 0 nz) at y)
+
+    set-kept : (c : Controller) (k : ℕ) → lives t k ≡ true → k ≢ 0 → parents t k ≡ g → sets t k c ≡ true → newSet t g line c ≡ true
+    unfolding heldByChild
+    set-kept c k lk nz e h =
+        split (newSet t g line c)
+        (λ y. y)
+        (λ n. let old : sets t g c ≡ true = rw e at (w .topDown .within c k lk nz h) in
+        let q : (leaving t g line c && heldByChild t g c) ≡ false = any-controller-none _ held c in
+        let none : heldByChild t g c ≡ false = and-false (leaving t g line c) _ q (leave-true (sets t g c) (asked line c) old n) in
+        let z : (childOf g k (cores t k) && sets t k c) ≡ false = any-none groups (λ j. childOf g j (cores t j) && sets t j c) none k (w .sound .range k lk) in
+        clash (sets t k c) h (and-false (childOf g k (cores t k)) _ z (child-of g k (cores t k) lk nz e)))
+
+    set-quiet : (p : ℕ) → places t p ≡ at g → g ≢ 0 → (c : Controller) → newSet t g line c ≡ false
+    set-quiet p e nz c =
+        split (hasProcess t g)
+        (λ y. join-none (sets t g c) (asked line c) (w .quiet .empty p g e nz c)
+        (any-controller-none (joining t g line)
+        (and-false (hasProcess t g) _ (and-false (not (eqb g 0)) _ join (rw (ne-eqb g 0 nz))) y) c))
+        (λ n. absurd (no-process g n p e))
+
+    kept-control : WellFormed (controlled t g (newSet t g line) (leaving t g line))
+    kept-control =
+        well-formed-after-control t g (newSet t g line) (leaving t g line) w
+        (record {
+          alive = l;
+          available = set-available;
+          kept = set-kept;
+          quiet = set-quiet;
+          reset = λ c y n. leave-true (sets t g c) (asked line c) y n;
+        })
+
+  -- own pages charged or released
+  module _ (g : ℕ) (l : lives t g ≡ true) where
+    kept-charge : (n : ℕ) → over (usage (cores t) 0 + n) (actingLimit t Pages 0) ≡ false → WellFormed (atGroup t g (charged n (t .group g)))
+    kept-charge n o =
+        well-formed-after-patch t w g _
+        (patch-same g _ l l refl refl refl (root-owner g) refl
+        (omega (
+          arith,
+          over-figure _ (t .machine) _ o (machine-acts t),
+          usage-after-charge (cores t) g n (w .sound .range g l) l 0,
+          weigh-yes _ n (root-inside (w .sound) g l),
+        )))
+
+    kept-release : (n : ℕ) → n ≤ t .group g .core .own → WellFormed (atGroup t g (uncharged n (t .group g)))
+    kept-release n h =
+        well-formed-after-patch t w g _
+        (patch-same g _ l l refl refl refl (root-owner g) refl
+        (omega (arith, usage-after-release (cores t) g n (w .sound .range g l) l h 0, w .sized .fits)))
+
+-- Every accepted call.
+pub well-formed-effect : (t : Tree) (c : Call) → WellFormed t → Pass (checks (factsOf t) c) → WellFormed (effect t c)
+unfolding effect checks Pass chargeChecks forkChecks
+well-formed-effect t (make user parent new) w k =
+    well-formed-after-make t w parent new user (search) (search) (omega (arith, leb-false)) (omega (arith, leb-false)) default-new range-new
+well-formed-effect t (remove user g) w k =
+    well-formed-after-remove t w g (search) (eqb-false g 0 (search)) (no-child t w g (search)) (no-process t w g (search))
+well-formed-effect t (handOver user g owner) w k =
+    let l : lives t g ≡ true = (search) in
+    well-formed-after-patch t w g _
+    (patch-same t w g _ l l refl refl refl (λ e. absurd (eqb-false g 0 (search) e)) refl (same-pages t w g _ refl refl))
+well-formed-effect t (writeProcs user g line) w k =
+    let p : ℕ = lineProcess line in
+    let lg : lives t g ≡ true = (search) in
+    well-formed-after-place t w p _ (eqb-false p 0 (search))
+    (λ h e. let d : g ≡ h = cc in (rw (← d) lg, omega (arith, leb-false)))
+    (λ h e nz c. let d : g ≡ h = cc in
+    let q : anyController (sets t g) ≡ false = and-false (not (eqb g 0)) _ (search) (rw (ne-eqb g 0 (λ z. nz (sym d ∙ z)))) in
+    rw (← d) (any-controller-none (sets t g) q c))
+    (λ e. let z : _≡_ {A = ℕ} 0 1 = cc in absurd (omega arith))
+well-formed-effect t (writeControl user g line) w k = kept-control t w g line (search) (search) (search) (search)
+well-formed-effect t (writeSetting user g file line) w k = kept-setting t w g (settingNamed file) line (search) (search) (search) (search)
+well-formed-effect t (admit p user) w k =
+    well-formed-after-place t w p _ (eqb-false p 0 (search))
+    (λ h e. let d : 0 ≡ h = cc in (rw (← d) (w .sound .root), omega (arith, leb-false)))
+    (λ h e nz c. let d : 0 ≡ h = cc in absurd (nz (sym d)))
+    (λ e. let z : _≡_ {A = ℕ} 0 1 = cc in absurd (omega arith))
+well-formed-effect t (fork p new) w k =
+    well-formed-after-place t w new _ (eqb-false new 0 (search))
+    (λ h e. (w .placed .group p h e, omega (arith, leb-false)))
+    (λ h e nz c. w .quiet .empty p h e nz c)
+    (λ e. clash (isLive (places t p)) (search) (rw e))
+well-formed-effect t (exit p) w k =
+    well-formed-after-place t w p _ (process-number t w p (search))
+    (λ h e. let z : _≡_ {A = ℕ} 0 1 = cc in absurd (omega arith))
+    (λ h e nz c. let z : _≡_ {A = ℕ} 0 1 = cc in absurd (omega arith))
+    (λ e. refl)
+well-formed-effect t (charge p n) w k =
+    let l : lives t (processGroup t p) ≡ true = process-lives t w p (search) in
+    kept-charge t w (processGroup t p) l n (room-on-chain (factsOf t) Pages n (processGroup t p) (search) 0 (root-inside (w .sound) (processGroup t p) l))
+well-formed-effect t (release g n) w k = kept-release t w g (search) n (omega (arith, ltb-false))
+well-formed-effect t (read g file buffer) w k = w
+well-formed-effect t (membership p buffer) w k = w
+
+pub well-formed-step : (t : Tree) (c : Call) → WellFormed t → WellFormed (step t c)
+well-formed-step t c w =
+    by-verdict t c
+    (λ e. rw (step-accepted t c e) (well-formed-effect t c w (passed t c e)))
+    (λ x e. rw (step-refused t c x e) w)
+
+pub well-formed-run : (cs : List Call) (t : Tree) → WellFormed t → WellFormed (run t cs)
+unfolding run
+well-formed-run [] t w = w
+well-formed-run (c ∷ cs) t w = well-formed-run cs (step t c) (well-formed-step t c w)
