@@ -10,12 +10,12 @@ use Rattle.model.specs.Checks.{errnoNumber, answerNumber, first, Check}
 use Rattle.model.specs.Tree.{Tree, Core, Settings, settingsOf, controllerOf, withLimits, noGroup, atGroup, cores, parents, sets, settingsAt, places}
 use Rattle.model.specs.Hierarchy.{childOf, factsOf}
 use Rattle.model.specs.Control.{asked, isDropped}
-use Rattle.model.specs.Settings.{Value, weight, bandwidth, max, put, reset}
+use Rattle.model.specs.Settings.{SettingValue, weight, bandwidth, maximum, put, reset}
 use Rattle.model.specs.Rooms.{Room, room, full, roomFor, isFull, shortage}
 use Rattle.model.specs.Rules.{processGroup, lineProcess, leaving}
 use Rattle.model.specs.Calls.{Call, make, remove, handOver, writeProcs, writeControl, writeSetting, admit, fork, exit, charge, release, read, membership, lineValue, chargeChecks, forkChecks, checks, verdict}
 use Rattle.model.specs.Effects.{newSet, controlled, written, effect, step, fresh, run}
-use Rattle.model.specs.Replies.{roomAnswer, chargeAnswer, forkAnswer, roomNumber, readAnswer, readNumber, reply}
+use Rattle.model.specs.Replies.{roomAnswer, chargeAnswer, forkAnswer, roomNumber, readAnswer, readNumber, reply, replyBy}
 use Rattle.model.specs.Book.{Book, limitsAfter, childAfter, enterValue, enter, bookStep, freshBook, fed}
 use Rattle.model.specs.WellFormed.{WellFormed}
 use Rattle.model.specs.Demands.{log, treeAfter, bookAfter}
@@ -51,7 +51,7 @@ room-number r cs x = go (first cs) x ∙ ap answerNumber (sym (first-append cs (
     go (Refused e) x = refl
 
 pub reply-number : (t : Tree) (c : Call) → reply t c .number ≡ answerNumber (verdict t c)
-unfolding reply verdict chargeAnswer forkAnswer checks
+unfolding reply replyBy verdict chargeAnswer forkAnswer checks
 reply-number t (make user parent new) = refl
 reply-number t (remove user g) = refl
 reply-number t (handOver user g owner) = refl
@@ -130,13 +130,13 @@ module _ (t : Tree) (w : WellFormed t) (g : ℕ) (line : List ℕ) where
 
 -- A setting: only the two limits are kept in the book.
 module _ (t : Tree) (mark : ℕ → ℕ) (g : ℕ) where
-  same-after-value : (v : Option Value) → Same (atGroup t g (written v (t .group g))) (enterValue (bookOf t mark) g v)
+  same-after-value : (v : Option SettingValue) → Same (atGroup t g (written v (t .group g))) (enterValue (bookOf t mark) g v)
   unfolding put
   same-after-value none = record { machine = refl; groups = fun-ext (upd-keeps (λ x. x .core) (t .group) g _ refl); places = refl }
   same-after-value (some (weight n)) = record { machine = refl; groups = fun-ext (upd-keeps (λ x. x .core) (t .group) g _ refl); places = refl }
   same-after-value (some (bandwidth q none)) = record { machine = refl; groups = fun-ext (upd-keeps (λ x. x .core) (t .group) g _ refl); places = refl }
   same-after-value (some (bandwidth q (some p))) = record { machine = refl; groups = fun-ext (upd-keeps (λ x. x .core) (t .group) g _ refl); places = refl }
-  same-after-value (some (max r l)) = record { machine = refl; groups = upd-map (λ x. x .core) (t .group) g _; places = refl }
+  same-after-value (some (maximum r l)) = record { machine = refl; groups = upd-map (λ x. x .core) (t .group) g _; places = refl }
 
 pub same-effect : (t : Tree) (mark : ℕ → ℕ) (c : Call) → WellFormed t → Same (effect t c) (enter (bookOf t mark) c)
 unfolding effect enter

@@ -11,26 +11,25 @@ use borrow.Author.Tests.{eqb-false, leb-false, ltb-false}
 use Rattle.model.specs.Functions.{upd, weigh}
 use Rattle.model.specs.Sizes.{groups}
 use Rattle.model.specs.Checks.{Pass}
-use Rattle.model.specs.Tree.{Tree, Core, at, nowhere, controllerOf, noCore, newCore, withOwn, withLimits, withLimit, cores, lives, parents, places}
+use Rattle.model.specs.Tree.{groupOf, Tree, Core, at, nowhere, controllerOf, noCore, newCore, withOwn, withLimits, withLimit, cores, lives, parents, places}
 use Rattle.model.specs.Hierarchy.{inside, ownPages, usage, population, amount, childOf, factsOf}
 use Rattle.model.specs.Control.{asked, isDropped}
-use Rattle.model.specs.Settings.{Value, weight, bandwidth}
-use Rattle.model.specs.Settings as S
+use Rattle.model.specs.Settings.{SettingValue, weight, bandwidth, maximum}
 use Rattle.model.specs.Rooms.{over, actingLimit}
 use Rattle.model.specs.Rules.{processGroup, hasChild, hasProcess}
 use Rattle.model.specs.Calls.{Call, make, remove, handOver, writeProcs, writeControl, writeSetting, admit, fork, exit, charge, release, read, membership, lineValue, chargeChecks, forkChecks, checks}
 use Rattle.model.specs.Effects.{charged, effect}
 use Rattle.model.specs.Book.{limitsAfter, childAfter, enterValue, enter, freshBook}
 use Rattle.model.specs.WellFormed.{WellFormed}
-use Rattle.model.specs.Demands.{Claims, byCharge, byFork}
+use Rattle.model.specs.Demands.{Adds, byCharge, byFork, byAdmit}
 use Rattle.model.specs.declared.Resource.{Resource}
 use Rattle.model.specs.declared.Resource.the-variants.{Pages, Processes}
 use Rattle.model.specs.declared.Limit.{Limit}
 use Rattle.model.specs.declared.Limit.the-variants.{NoLimit, Figure}
 use Rattle.model.proofs.FunctionLaws.{split, whether, upd-same, upd-other, upd-map, upd-keeps, weigh-yes, weigh-no}
-use Rattle.model.proofs.ChainLaws.{inside-live}
+use Rattle.model.proofs.ChainLaws.{inside-live, inside-root}
 use Rattle.model.proofs.AmountLaws.{place-live, place-free, usage-same, usage-after-charge, usage-after-release, usage-fresh, population-after-birth, amount-after-make, amount-after-remove}
-use Rattle.model.proofs.RoomLaws.{room-on-chain, own-limit-holds, over-figure, no-figure}
+use Rattle.model.proofs.RoomLaws.{room-on-chain, root-limit-none, own-limit-holds, over-figure, no-figure}
 use Rattle.model.proofs.Steps.{no-child, no-process, process-lives}
 use Rattle.model.proofs.Books.{bookOf}
 
@@ -40,29 +39,36 @@ module _ (t : Tree) (w : WellFormed t) (r : Resource) (n g a : ℕ) (i : inside 
   room-kept : (m : ℕ) → m ≡ amount (cores t) (places t) r a + n → over m (t .group a .core .limit r) ≡ false
   room-kept m e = rw e (own-limit-holds t w r a (amount (cores t) (places t) r a + n) (inside-live (w .sound) a g lg i) o)
 
-pub within-after-claim : (t : Tree) → WellFormed t → (r : Resource) (p : ℕ) (c : Call) → Claims r p c → Pass (checks (factsOf t) c) → (a : ℕ)
-    → inside (parents (effect t c)) a (processGroup t p) ≡ true
+pub within-after-add : (t : Tree) → WellFormed t → (r : Resource) (p : ℕ) (c : Call) → Adds r p c → Pass (checks (factsOf t) c) → (a : ℕ)
+    → inside (parents (effect t c)) a (processGroup (effect t c) p) ≡ true
     → over (amount (cores (effect t c)) (places (effect t c)) r a) (effect t c .group a .core .limit r) ≡ false
 unfolding effect checks Pass chargeChecks forkChecks
-within-after-claim t w r p c (byCharge {n = n}) k a i =
+within-after-add t w r p c (byCharge {n = n}) k a i =
     let g : ℕ = processGroup t p in
     let lg : lives t g ≡ true = process-lives t w p (search) in
-    let j : inside (parents t) a g ≡ true = rw (fun-ext (upd-keeps (λ x. x .core .parent) (t .group) g (charged n (t .group g)) refl)) at i in
+    let j : inside (parents t) a g ≡ true =
+    rw (fun-ext (upd-keeps (λ x. x .core .parent) (t .group) g (charged n (t .group g)) refl)) at i in
     let u : usage (cores (effect t (charge p n))) a ≡ usage (cores t) a + n =
     ap (λ s. usage s a) (upd-map (λ x. x .core) (t .group) g _) ∙ usage-after-charge (cores t) g n (w .sound .range g lg) lg a
     ∙ ap (λ x. usage (cores t) a + x) (weigh-yes _ n j) in
     rw (upd-keeps (λ x. x .core .limit Pages) (t .group) g (charged n (t .group g)) refl a)
     (room-kept t w Pages n g a j lg (room-on-chain (factsOf t) Pages n g (search) a j) _ u)
-within-after-claim t w r p c (byFork {new = new}) k a i =
-    let g : ℕ = processGroup t p in
-    let lg : lives t g ≡ true = process-lives t w p (search) in
-    let here : places t p ≡ at g = place-live (places t p) (search) in
-    let free : places t new ≡ nowhere = place-free (places t new) (search) in
-    let u : population (cores t) (places (effect t (fork p new))) a ≡ population (cores t) (places t) a + 1 =
-    ap (λ x. population (cores t) x a) (upd-map (λ x. x .place) (t .process) new (t .process p) ∙ ap (upd (places t) new) here)
-    ∙ population-after-birth (cores t) (places t) new g a (omega (arith, leb-false)) free
-    ∙ ap (λ x. population (cores t) (places t) a + x) (weigh-yes _ 1 i) in
-    room-kept t w Processes 1 g a i lg (room-on-chain (factsOf t) Processes 1 g (search) a i) _ u
+within-after-add t w r p c (byFork {parent = parent}) k a i =
+    let g : ℕ = processGroup t parent in
+    let lg : lives t g ≡ true = process-lives t w parent (search) in
+    let here : places t parent ≡ at g = place-live (places t parent) (search) in
+    let free : places t p ≡ nowhere = place-free (places t p) (search) in
+    let j : inside (parents t) a g ≡ true =
+    sym (ap (λ x. inside (parents t) a (groupOf (x .place))) (upd-same (t .process) p (t .process parent))) ∙ i in
+    let u : population (cores t) (places (effect t (fork parent p))) a ≡ population (cores t) (places t) a + 1 =
+    ap (λ x. population (cores t) x a) (upd-map (λ x. x .place) (t .process) p (t .process parent) ∙ ap (upd (places t) p) here)
+    ∙ population-after-birth (cores t) (places t) p g a (omega (arith, leb-false)) free
+    ∙ ap (λ x. population (cores t) (places t) a + x) (weigh-yes _ 1 j) in
+    room-kept t w Processes 1 g a j lg (room-on-chain (factsOf t) Processes 1 g (search) a j) _ u
+within-after-add t w r p c (byAdmit {user = user}) k a i =
+    let z : a ≡ 0 = inside-root (w .sound) a
+    (sym (ap (λ x. inside (parents t) a (groupOf (x .place))) (upd-same (t .process) p (record { place = at 0; user = user }))) ∙ i) in
+    rw (z, root-limit-none t w Processes)
 
 -- "the larger of the limit and what it had when the limit was last written"
 abbrev pub Marked : (ℕ → Core) → (ℕ → ℕ) → Type 0
@@ -124,12 +130,12 @@ module _ (g : ℕ) (line : List ℕ) (k : ℕ) (c : Core) where
       (λ n. rw (n, childAfter) (inr refl))
 
 module _ (t : Tree) (mark : ℕ → ℕ) (w : WellFormed t) (q : Marked (cores t) mark) where
-  marked-value : (g : ℕ) (v : Option Value) → Marked (enterValue (bookOf t mark) g v .group) (enterValue (bookOf t mark) g v .mark)
+  marked-value : (g : ℕ) (v : Option SettingValue) → Marked (enterValue (bookOf t mark) g v .group) (enterValue (bookOf t mark) g v .mark)
   marked-value g none = q
   marked-value g (some (weight n)) = q
   marked-value g (some (bandwidth x p)) = q
-  marked-value g (some (S.max Pages l)) = marked-write (cores t) mark g _ q
-  marked-value g (some (S.max Processes l)) =
+  marked-value g (some (maximum Pages l)) = marked-write (cores t) mark g _ q
+  marked-value g (some (maximum Processes l)) =
       marked-frame (cores t) _ mark q
       (upd-keeps (λ c. c .live) (cores t) g _ refl) (upd-keeps (λ c. c .parent) (cores t) g _ refl) (upd-keeps (λ c. c .own) (cores t) g _ refl)
       (λ a. inr (upd-keeps (λ c. c .limit Pages) (cores t) g _ refl a))

@@ -37,10 +37,6 @@ pub leave-true : (b : Bool) (a : Ask) → b ≡ true → setAfter b a ≡ false 
 leave-true true a e n = rw n
 leave-true false a e n = clash false e refl
 
-pub leave-was : (b : Bool) (a : Ask) → leaves b a ≡ true → b ≡ true
-leave-was true a h = refl
-leave-was false a h = h
-
 -- only a controller whose last word is "-" leaves
 pub leave-dropped : (b : Bool) (a : Ask) → leaves b a ≡ isDropped a && b
 leave-dropped true keep = refl

@@ -65,9 +65,6 @@ module _ (t : Tree) (g : ℕ) (set gone : Controls) where
   pub parent-after-control : parents (controlled t g set gone) ≡ parents t
   parent-after-control = part-kept (λ x. x .core .parent) (λ _ _. refl) refl
 
-  pub own-after-control : (k : ℕ) → controlled t g set gone .group k .core .own ≡ t .group k .core .own
-  own-after-control k = ap (λ f. f k) (part-kept (λ x. x .core .own) (λ _ _. refl) refl)
-
   pub set-after-control : sets (controlled t g set gone) ≡ upd (sets t) g set
   set-after-control = fun-ext (part-controlled (λ x. x .set) (λ _ _. refl)) ∙ upd-map (λ x. x .set) (t .group) g _
 
@@ -128,11 +125,11 @@ module _ (t : Tree) (g : ℕ) (set gone : Controls) where
           quiet = quiet-eq refl set-after-control (quiet-after-set g set (w .quiet) (q .quiet));
           blank =
               record {
-                groups = λ k d.
+                dead = λ k d.
                     let dead : lives t k ≡ false = sym (ap (λ f. f k) live-after-control) ∙ d in
                     let n : childOf g k (cores t k) ≡ false = split (childOf g k (cores t k)) (λ y. clash (lives t k) (child-live g k (cores t k) y) dead) (λ n. n) in
-                    reset-other t g gone k _ n ∙ upd-other (t .group) g _ k (λ e. clash (lives t k) (rw e (q .alive)) dead) ∙ w .blank .groups k dead;
-                processes = w .blank .processes;
+                    reset-other t g gone k _ n ∙ upd-other (t .group) g _ k (λ e. clash (lives t k) (rw e (q .alive)) dead) ∙ w .blank .dead k dead;
+                free = w .blank .free;
               };
           owned = ap (λ f. f 0) (part-kept (λ x. x .owner) (λ _ _. refl) refl) ∙ w .owned;
           sized =

@@ -1,6 +1,7 @@
 -- The demands, as specs/Demands.antt states them. Demand 1: a refused call changes nothing. Demand 2: refused exactly when a
 -- check says so; containment (writing back is in WriteBack.antt). Demand 3: for every list of calls. Assumes nothing.
 use Prim.Native.Nat.{ℕ, _≤_}
+use native.Mathlib.Omega.{arith}
 use mathlib.Core.Bool.{true, false}
 use mathlib.Core.List.{List, [], _∷_}
 use mathlib.Core.Option.{some}
@@ -10,19 +11,18 @@ use Rattle.model.specs.Functions.{orElse, mapped, passes}
 use Rattle.model.specs.Sizes.{groups}
 use Rattle.model.specs.Checks.{answerNumber, Pass}
 use Rattle.model.specs.Tree.{Tree, Core, Place, groupOf, controllerOf, cores, lives, parents, places}
-use Rattle.model.specs.Hierarchy.{inside, amount, usage, factsOf}
+use Rattle.model.specs.Hierarchy.{chain, on, inside, amount, usage, factsOf}
 use Rattle.model.specs.Text.{ended, decimal}
 use Rattle.model.specs.Names.{fileName, fileNamed}
 use Rattle.model.specs.Settings.{toFigure}
-use Rattle.model.specs.Rooms.{over}
-use Rattle.model.specs.Rules.{on, processGroup}
+use Rattle.model.specs.Rooms.{actingLimit, over}
 use Rattle.model.specs.Files.{isPresent, contents, fits}
 use Rattle.model.specs.Calls.{Call, make, remove, handOver, writeProcs, writeControl, writeSetting, admit, fork, exit, charge, release, read, membership, fileText, checks, verdict}
 use Rattle.model.specs.Effects.{effect, step, fresh, run}
-use Rattle.model.specs.Replies.{textReply, reply, bufferOf}
+use Rattle.model.specs.Replies.{textReply, reply, replyBy, bufferOf}
 use Rattle.model.specs.Book.{Book, inBook, enter, bookStep, freshBook, fed}
 use Rattle.model.specs.WellFormed.{WellFormed}
-use Rattle.model.specs.Demands.{TurnedAway, Exactly, log, treeAfter, bookAfter, Alike, Bounded, Claims, NoneOver, Demand3}
+use Rattle.model.specs.Demands.{TurnedAway, Exactly, log, treeAfter, bookAfter, Alike, Bounded, Adds, NoneOver, Demand3, Counted, Lowest, Demands}
 use Rattle.model.specs.declared.Resource.{Resource}
 use Rattle.model.specs.declared.File.the-variants.{Current}
 use Rattle.model.specs.declared.Errno.{Errno}
@@ -30,10 +30,14 @@ use Rattle.model.specs.declared.Answer.{Answer}
 use Rattle.model.specs.declared.Answer.the-variants.{Done, Refused}
 use Rattle.model.proofs.CheckLaws.{pass-first, says-first, first-says, answer-zero}
 use Rattle.model.proofs.NameLaws.{fileNamed-fileName}
-use Rattle.model.proofs.Steps.{step-accepted, step-refused, by-verdict, passed, well-formed-effect}
-use Rattle.model.proofs.Reached.{well-formed-fresh}
+use Rattle.model.proofs.Steps.{well-formed-step, step-accepted, step-refused, by-verdict, passed, well-formed-effect}
+use Rattle.model.proofs.Reached.{well-formed-fresh, reached-fresh, reached-step, well-formed-reached}
+use Rattle.model.proofs.RoomLaws.{count-on-success, consult-full}
+use Rattle.model.proofs.ChainLaws.{ancestor-of-left, ancestor-of-right, ancestor-lowest}
+use Rattle.model.proofs.WriteBack.{write-back}
+use Rattle.model.proofs.Containment.{contained}
 use Rattle.model.proofs.Books.{reply-number, Same, book-of-same, same-enter, same-fresh, book-step-accepted, book-step-refused, book-after-more}
-use Rattle.model.proofs.Bounds.{within-after-claim, Marked, marked-enter, marked-fresh}
+use Rattle.model.proofs.Bounds.{within-after-add, Marked, marked-enter, marked-fresh}
 
 -- Demand 1.
 text-refused : (e : Errno) (a : Answer) (text buffer : List ℕ) → a ≡ Refused e
@@ -41,7 +45,7 @@ text-refused : (e : Errno) (a : Answer) (text buffer : List ℕ) → a ≡ Refus
 text-refused e a text buffer h = rw h (refl, refl)
 
 buffer-refused : (t : Tree) (c : Call) (e : Errno) → verdict t c ≡ Refused e → (reply t c .buffer ≡ bufferOf c) × (reply t c .told ≡ 0)
-unfolding reply
+unfolding reply replyBy verdict
 buffer-refused t (make user parent new) e h = (refl, refl)
 buffer-refused t (remove user g) e h = (refl, refl)
 buffer-refused t (handOver user g owner) e h = (refl, refl)
@@ -73,6 +77,23 @@ exactly t c =
       says = first-says (checks (factsOf t) c);
       only = λ a s. says-first s;
       accepted = λ e. (step-accepted t c e, reply-number t c ∙ ap answerNumber e);
+    }
+
+pub counted : (t : Tree) → WellFormed t → Counted t
+counted t w =
+    record {
+      success = λ r n g k l e. count-on-success (factsOf t) r n g w l k e;
+      stopped = λ r n g h k e.
+          let x = consult-full (actingLimit t r) (factsOf t .amount r) n 0 (chain (parents t) g) h k e in
+          (x .0, omega (arith, x .1), x .2);
+    }
+
+pub lowest : (t : Tree) → WellFormed t → Lowest t
+lowest t w =
+    record {
+      left = ancestor-of-left (w .sound);
+      right = ancestor-of-right (w .sound);
+      below = ancestor-lowest (w .sound);
     }
 
 -- Demand 3. What holds of the tree and the book after every list of calls.
@@ -111,7 +132,7 @@ state-after m cs =
 current-read : (t : Tree) → WellFormed t → (r : Resource) (g : ℕ) (buffer : List ℕ) → lives t g ≡ true → on t (controllerOf r) g ≡ true
     → fits (contents (factsOf t) g (Current r)) buffer ≡ true
     → reply t (read g (fileName (Current r)) buffer) ≡ textReply Done (contents (factsOf t) g (Current r)) buffer
-unfolding reply verdict checks Pass
+unfolding reply replyBy verdict checks Pass
 current-read t w r g buffer l o f =
     let e : fileNamed (fileName (Current r)) ≡ some (Current r) = fileNamed-fileName (Current r) in
     let x : fileText (factsOf t) g (fileName (Current r)) ≡ contents (factsOf t) g (Current r) =
@@ -146,26 +167,40 @@ bounded t b s =
       pages = s .marked;
     }
 
--- the next call is granted more of a resource
-granted-next : (t : Tree) (b : Book) → State t b → (r : Resource) (p : ℕ) (c : Call) → Claims r p c → reply t c .number ≡ 0
-    → NoneOver r (bookStep b c (reply t c .number)) (groupOf (b .place p))
-granted-next t b s r p c k z =
+-- the next call adds to a resource
+within-next : (t : Tree) (b : Book) → State t b → (r : Resource) (p : ℕ) (c : Call) → Adds r p c → reply t c .number ≡ 0
+    → NoneOver r (bookStep b c (reply t c .number)) (groupOf (bookStep b c (reply t c .number) .place p))
+within-next t b s r p c k z =
     let e : verdict t c ≡ Done = answer-zero (verdict t c) (sym (reply-number t c) ∙ z) in
     let u : Same (effect t c) (enter b c) = same-enter t b c (s .formed) (s .same) in
-    let h : ((a : ℕ) → inside (parents (effect t c)) a (processGroup t p) ≡ true → over (amount (cores (effect t c)) (places (effect t c)) r a) (effect t c .group a .core .limit r) ≡ false) =
-    within-after-claim t (s .formed) r p c k (passed t c e) in
     rw (book-step-accepted t b c e)
-    (subst₂ (λ (x : ℕ → Core) (y : ℕ → Place). (a : ℕ) → inside (λ k. x k .parent) a (groupOf (b .place p)) ≡ true → over (amount x y r a) (x a .limit r) ≡ false)
-    (u .groups) (u .places)
-    (subst (λ (x : ℕ). (a : ℕ) → inside (parents (effect t c)) a x ≡ true → over (amount (cores (effect t c)) (places (effect t c)) r a) (effect t c .group a .core .limit r) ≡ false)
-    (ap (λ x. groupOf (x p)) (s .same .places)) h))
+    (subst₂
+    (λ (x : ℕ → Core) (y : ℕ → Place). (a : ℕ) → inside (λ k. x k .parent) a (groupOf (y p)) ≡ true → over (amount x y r a) (x a .limit r) ≡ false)
+    (u .groups) (u .places) (within-after-add t (s .formed) r p c k (passed t c e)))
 
 pub demand-3 : (m : ℕ) (cs : List Call) → Demand3 m cs
 demand-3 m cs =
     record {
       alike = alike (treeAfter m cs) (bookAfter m cs) (state-after m cs);
       bounded = bounded (treeAfter m cs) (bookAfter m cs) (state-after m cs);
-      granted = λ r p c xs ys k _ z.
-          subst (λ (b : Book). NoneOver r b (groupOf (bookAfter m xs .place p))) (sym (book-after-more m xs c))
-          (granted-next (treeAfter m xs) (bookAfter m xs) (state-after m xs) r p c k z);
+      accepted = λ r p c xs ys k _ z.
+          subst (λ (b : Book). NoneOver r b (groupOf (b .place p))) (sym (book-after-more m xs c))
+          (within-next (treeAfter m xs) (bookAfter m xs) (state-after m xs) r p c k z);
+    }
+
+pub demands : Demands
+demands =
+    record {
+      reaching =
+          record { begins = reached-fresh; goesOn = reached-step; formed = well-formed-reached; kept = well-formed-step };
+      first = record { refused = turned-away; numbered = λ t c e. answer-zero (verdict t c) (sym (reply-number t c) ∙ e) };
+      second =
+          record {
+            exactly = exactly;
+            counted = counted;
+            lowest = lowest;
+            writeBack = write-back;
+            contained = contained;
+          };
+      third = demand-3;
     }

@@ -22,14 +22,6 @@ whether i j f g = elim (ℕ-discrete i j) [ yes e ↦ f e | no ne ↦ g ne ]
 pub clash : {A : Type 0} (b : Bool) → b ≡ true → b ≡ false → A
 clash b p q = let z : _≡_ {A = ℕ} 0 1 = cc in absurd (omega arith)
 
-pub or-left : (a b : Bool) → (a || b) ≡ false → a ≡ false
-or-left true b e = e
-or-left false b e = refl
-
-pub or-right : (a b : Bool) → (a || b) ≡ false → b ≡ false
-or-right true b e = clash true refl e
-or-right false b e = e
-
 pub or-true : (a b : Bool) → (a || b) ≡ true → a ≡ false → b ≡ true
 or-true true b e h = clash true refl h
 or-true false b e h = e

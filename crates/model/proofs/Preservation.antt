@@ -7,9 +7,9 @@ use mathlib.Core.Path.{_≡_, refl, ap, sym, _∙_, fun-ext}
 use Rattle.model.specs.Functions.{upd}
 use Rattle.model.specs.Sizes.{groups, processes, deepest}
 use Rattle.model.specs.Tree.{Tree, Group, Process, nowhere, at, settingsOf, noCore, noControls, noGroup, noProcess, newGroup, atGroup, atProcess, cores, lives, parents, depths, owners, sets, settingsAt, places}
-use Rattle.model.specs.Hierarchy.{usage}
+use Rattle.model.specs.Hierarchy.{onIn, usage}
 use Rattle.model.specs.Settings.{shown, inRange, AtDefault}
-use Rattle.model.specs.WellFormed.{onIn, WellFormed}
+use Rattle.model.specs.WellFormed.{WellFormed}
 use Rattle.model.specs.Effects.{charged, removed}
 use Rattle.model.specs.declared.Controller.{Controller}
 use Rattle.model.specs.declared.Setting.{Setting}
@@ -64,10 +64,10 @@ module _ (t : Tree) (w : WellFormed t) where
           quiet = quiet-eq refl same-set (w .quiet);
           blank =
               record {
-                groups =
+                dead =
                     upd-all (λ j x. x .core .live ≡ false → x ≡ noGroup) (t .group) g v
-                    (λ d. clash (v .core .live) (k .live) d) (λ j _. w .blank .groups j);
-                processes = w .blank .processes;
+                    (λ d. clash (v .core .live) (k .live) d) (λ j _. w .blank .dead j);
+                free = w .blank .free;
               };
           owned = upd-all (λ j x. j ≡ 0 → x .owner ≡ 0) (t .group) g v (k .owner) (λ j _ z. rw z (w .owned)) 0 refl;
           sized =
@@ -94,8 +94,8 @@ module _ (t : Tree) (w : WellFormed t) where
         quiet = quiet-eq e refl (quiet-after-put p (v .place) (w .quiet) q);
         blank =
             record {
-              groups = w .blank .groups;
-              processes = upd-all (λ j x. x .place ≡ nowhere → x ≡ noProcess) (t .process) p v n (λ j _. w .blank .processes j);
+              dead = w .blank .dead;
+              free = upd-all (λ j x. x .place ≡ nowhere → x ≡ noProcess) (t .process) p v n (λ j _. w .blank .free j);
             };
         owned = w .owned;
         sized = w .sized;
@@ -140,10 +140,10 @@ module _ (t : Tree) (w : WellFormed t) where
           quiet = quiet-eq refl (part-made (λ x. x .set)) (quiet-after-set new noControls (w .quiet) (λ _ _ _ _. refl));
           blank =
               record {
-                groups =
+                dead =
                     upd-all (λ j x. x .core .live ≡ false → x ≡ noGroup) (t .group) new made
-                    (λ h. clash true refl h) (λ j _. w .blank .groups j);
-                processes = w .blank .processes;
+                    (λ h. clash true refl h) (λ j _. w .blank .dead j);
+                free = w .blank .free;
               };
           owned = ap (λ x. x .owner) (upd-other (t .group) new made 0 (not-new 0 (w .sound .root))) ∙ w .owned;
           sized =
@@ -195,11 +195,11 @@ module _ (t : Tree) (w : WellFormed t) where
           quiet = quiet-eq refl (part-left (λ x. x .set) refl) (quiet-after-set g noControls (w .quiet) (λ _ _ _ _. refl));
           blank =
               record {
-                groups =
+                dead =
                     upd-all (λ j x. x .core .live ≡ false → x ≡ noGroup) (upd (t .group) (parents t g) heir) g noGroup (λ _. refl)
                     (λ j _. upd-all (λ i x. x .core .live ≡ false → x ≡ noGroup) (t .group) (parents t g) heir
-                    (λ d. clash (lives t (parents t g)) (w .sound .above g lg gz) d) (λ i _. w .blank .groups i) j);
-                processes = w .blank .processes;
+                    (λ d. clash (lives t (parents t g)) (w .sound .above g lg gz) d) (λ i _. w .blank .dead i) j);
+                free = w .blank .free;
               };
           owned =
               ap (λ f. f 0) (part-left (λ x. x .owner) refl) ∙ upd-other (owners t) g 0 0 (λ e. gz (sym e)) ∙ w .owned;

@@ -52,8 +52,8 @@ module _ (m : ℕ) where
         quiet = record { empty = λ p g e nz c. let z : _≡_ {A = ℕ} 0 1 = cc in absurd (omega arith) };
         blank =
             record {
-              groups = upd-all (λ j x. x .core .live ≡ false → x ≡ noGroup) (λ (g : ℕ). noGroup) 0 (newGroup 0 0 0) (λ h. clash true refl h) (λ j _ _. refl);
-              processes = λ p e. refl;
+              dead = upd-all (λ j x. x .core .live ≡ false → x ≡ noGroup) (λ (g : ℕ). noGroup) 0 (newGroup 0 0 0) (λ h. clash true refl h) (λ j _ _. refl);
+              free = λ p e. refl;
             };
         owned = ap (λ x. x .owner) root-new;
         sized =

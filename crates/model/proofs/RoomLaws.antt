@@ -1,18 +1,18 @@
 -- Laws of specs/Rooms.antt: what it means that a chain has room, or that a group of it has none; and which limit acts where.
 -- Once for either resource. Assumes nothing.
-use Prim.Native.Nat.{ℕ, zero, suc, _+_, _≤_, _<_}
+use Prim.Native.Nat.{ℕ, zero, suc, _+_, _≤_}
 use native.Mathlib.Omega.{arith}
 use mathlib.Core.Bool.{true, false}
 use mathlib.Core.List.{List, [], _∷_}
 use mathlib.Core.Logic.{_≢_, ⊎-elim}
 use mathlib.Core.Path.{_≡_, refl, sym, _∙_}
-use lib.ListN.{length, getD}
-use borrow.Author.Tests.{ne-eqb, ltb-false, le-ltb}
+use lib.ListN.{length}
+use borrow.Author.Tests.{ne-eqb, ltb-false}
 use Rattle.model.specs.Functions.{member}
 use Rattle.model.specs.Tree.{Tree, controllerOf, lives, parents, sets, depths}
 use Rattle.model.specs.Hierarchy.{chain, inside, Facts}
 use Rattle.model.specs.Settings.{AtDefault}
-use Rattle.model.specs.Rooms.{over, actingLimit, room, full, consult, roomFor, isFull}
+use Rattle.model.specs.Rooms.{over, actingLimit, room, full, consult, roomFor, isFull, Stopped}
 use Rattle.model.specs.WellFormed.{WellFormed}
 use Rattle.model.specs.declared.Resource.{Resource}
 use Rattle.model.specs.declared.Resource.the-variants.{Pages, Processes}
@@ -21,13 +21,6 @@ use Rattle.model.specs.declared.Limit.the-variants.{NoLimit, Figure}
 use Rattle.model.proofs.FunctionLaws.{split, whether, clash, member-cases, member-none}
 use Rattle.model.proofs.ChainLaws.{chain-length}
 use Rattle.model.proofs.RuleLaws.{on-other}
-
--- the group at the place told had no room, and all before it had
-pub record Stopped (limit : ℕ → Limit) (amount : ℕ → ℕ) (n : ℕ) (xs : List ℕ) (g i : ℕ) : Type 0 where
-  pub place : i < length xs
-  pub here : getD xs i 0 ≡ g
-  pub noRoom : over (amount g + n) (limit g) ≡ true
-  pub before : (j : ℕ) → j < i → over (amount (getD xs j 0) + n) (limit (getD xs j 0)) ≡ false
 
 module _ (limit : ℕ → Limit) (amount : ℕ → ℕ) (n : ℕ) where
   -- room: every group of the chain had room
@@ -86,10 +79,6 @@ module _ (f : Facts) (r : Resource) (n g : ℕ) where
 -- Not over a limit.
 pub over-figure : (n m : ℕ) (l : Limit) → over n l ≡ false → l ≡ Figure m → n ≤ m
 over-figure n m l o e = ltb-false m n (rw e at o)
-
-pub over-down : (n m : ℕ) (l : Limit) → m ≤ n → over n l ≡ false → over m l ≡ false
-over-down n m NoLimit h o = refl
-over-down n m (Figure x) h o = le-ltb x m (omega (arith, ltb-false x n o))
 
 pub no-figure : {A : Type 0} (l : Limit) (n : ℕ) → l ≡ NoLimit → l ≡ Figure n → A
 no-figure l n p q = let z : _≡_ {A = ℕ} 0 1 = cc in absurd (omega arith)

@@ -9,8 +9,9 @@ use borrow.Author.Tests.{ne-eqb}
 use Rattle.model.specs.Functions.{upd}
 use Rattle.model.specs.Sizes.{groups, processes, deepest}
 use Rattle.model.specs.Tree.{Place, at, Controls, Settings, noControls}
+use Rattle.model.specs.Hierarchy.{onIn}
 use Rattle.model.specs.Settings.{shown, inRange, AtDefault}
-use Rattle.model.specs.WellFormed.{Sound, Placed, onIn, TopDown, Defaults, Ranges, NoInternalProcesses}
+use Rattle.model.specs.WellFormed.{Sound, Placed, TopDown, Defaults, Ranges, NoInternalProcesses}
 use Rattle.model.specs.declared.Controller.{Controller}
 use Rattle.model.specs.declared.Setting.{Setting}
 use Rattle.model.proofs.FunctionLaws.{whether, clash, upd-same, upd-other, upd-all}

@@ -12,7 +12,7 @@ use borrow.Author.Tests.{leb-true, le-leb}
 use Rattle.model.specs.Functions.{mapped}
 use Rattle.model.specs.Tree.{defaultCpu, Settings, withLimit, controllerOf}
 use Rattle.model.specs.Text.{numberWord}
-use Rattle.model.specs.Settings.{settingController, Value, weight, bandwidth, max, limitWord, bandwidthOf, valueOf, between, largest, figureIn, periodIn, inRange, toAmount, toFigure, mapLimit, put, shown, AtDefault, reset}
+use Rattle.model.specs.Settings.{settingController, SettingValue, weight, bandwidth, maximum, limitWord, bandwidthOf, valueOf, between, largest, figureIn, periodIn, inRange, toAmount, toFigure, mapLimit, put, shown, AtDefault, reset}
 use Rattle.model.specs.declared.Resource.{Resource}
 use Rattle.model.specs.declared.Resource.the-variants.{Pages, Processes}
 use Rattle.model.specs.declared.Limit.{Limit}
@@ -63,16 +63,16 @@ put-shown (Max r) st =
     (fun-ext (withLimit-all (λ x l. l ≡ st .limit x) r _ (st .limit) (mapLimit-back r (st .limit r)) (λ x. refl)))
 
 -- Which setting a value is for.
-abbrev settingOf : Value → Setting
+abbrev settingOf : SettingValue → Setting
 settingOf (weight n) = CpuWeight
 settingOf (bandwidth q p) = CpuMax
-settingOf (max r l) = Max r
+settingOf (maximum r l) = Max r
 
-abbrev IsFor : Setting → Option Value → Type 0
+abbrev IsFor : Setting → Option SettingValue → Type 0
 IsFor s none = Unit {0}
 IsFor s (some v) = settingOf v ≡ s
 
-mapped-is-for : {A : Type 0} (s : Setting) (f : A → Value) (a : Option A) → ((x : A) → settingOf (f x) ≡ s)
+mapped-is-for : {A : Type 0} (s : Setting) (f : A → SettingValue) (a : Option A) → ((x : A) → settingOf (f x) ≡ s)
     → IsFor s (mapped f a)
 mapped-is-for s f none h = tt
 mapped-is-for s f (some x) h = h x
@@ -87,13 +87,13 @@ unfolding valueOf
 valueOf-is-for s [] = tt
 valueOf-is-for CpuWeight (w ∷ []) = mapped-is-for CpuWeight weight (numberWord w) (λ n. refl)
 valueOf-is-for CpuMax (w ∷ []) = mapped-is-for CpuMax (λ q. bandwidth q none) (limitWord w) (λ q. refl)
-valueOf-is-for (Max r) (w ∷ []) = mapped-is-for (Max r) (max r) (limitWord w) (λ l. refl)
+valueOf-is-for (Max r) (w ∷ []) = mapped-is-for (Max r) (maximum r) (limitWord w) (λ l. refl)
 valueOf-is-for CpuWeight (w ∷ v ∷ []) = tt
 valueOf-is-for CpuMax (w ∷ v ∷ []) = bandwidthOf-is-for (limitWord w) (numberWord v)
 valueOf-is-for (Max r) (w ∷ v ∷ []) = tt
 valueOf-is-for s (w ∷ v ∷ u ∷ us) = tt
 
-settingOf-valueOf : (s : Setting) (ws : List (List ℕ)) (v : Value) → valueOf s ws ≡ some v → settingOf v ≡ s
+settingOf-valueOf : (s : Setting) (ws : List (List ℕ)) (v : SettingValue) → valueOf s ws ≡ some v → settingOf v ≡ s
 settingOf-valueOf s ws v e = subst (IsFor s) e (valueOf-is-for s ws)
 
 -- Defaults.
@@ -121,23 +121,23 @@ module _ (gone : Controller → Bool) (c : Controller) (st : Settings) where
   pub default-after-reset : AtDefault c st → AtDefault c (reset gone st)
   default-after-reset h = reset-default gone c st (λ n. h)
 
-limit-after-put-other : (v : Value) (st : Settings) (r : Resource) → settingController (settingOf v) ≢ controllerOf r
+limit-after-put-other : (v : SettingValue) (st : Settings) (r : Resource) → settingController (settingOf v) ≢ controllerOf r
     → put v st .limit r ≡ st .limit r
 unfolding put
 limit-after-put-other (weight n) st r ne = refl
 limit-after-put-other (bandwidth q none) st r ne = refl
 limit-after-put-other (bandwidth q (some p)) st r ne = refl
-limit-after-put-other (max x l) st r ne =
+limit-after-put-other (maximum x l) st r ne =
     withLimit-all (λ y m. controllerOf x ≢ controllerOf y → m ≡ st .limit y) x _ (st .limit)
     (λ d. absurd (d refl)) (λ y d. refl) r ne
 
-cpu-after-put-other : (v : Value) (st : Settings) → settingController (settingOf v) ≢ Cpu → put v st .cpu ≡ st .cpu
+cpu-after-put-other : (v : SettingValue) (st : Settings) → settingController (settingOf v) ≢ Cpu → put v st .cpu ≡ st .cpu
 unfolding put
 cpu-after-put-other (weight n) st ne = absurd (ne refl)
 cpu-after-put-other (bandwidth q p) st ne = absurd (ne refl)
-cpu-after-put-other (max r l) st ne = refl
+cpu-after-put-other (maximum r l) st ne = refl
 
-put-default : (c : Controller) (v : Value) (st : Settings) → settingController (settingOf v) ≢ c → AtDefault c st
+put-default : (c : Controller) (v : SettingValue) (st : Settings) → settingController (settingOf v) ≢ c → AtDefault c st
     → AtDefault c (put v st)
 unfolding AtDefault
 put-default Cpu v st ne h = cpu-after-put-other v st ne ∙ h
@@ -145,7 +145,7 @@ put-default Memory v st ne h = limit-after-put-other v st Pages ne ∙ h
 put-default Pids v st ne h = limit-after-put-other v st Processes ne ∙ h
 
 -- a value for a setting of another controller
-pub default-after-put : (s : Setting) (ws : List (List ℕ)) (v : Value) (c : Controller) (st : Settings)
+pub default-after-put : (s : Setting) (ws : List (List ℕ)) (v : SettingValue) (c : Controller) (st : Settings)
     → valueOf s ws ≡ some v → settingController s ≢ c → AtDefault c st → AtDefault c (put v st)
 default-after-put s ws v c st e ne h = put-default c v st (rw (settingOf-valueOf s ws v e) ne) h
 
@@ -178,7 +178,7 @@ figureIn-rounded r (Figure n) e =
     let m = toFigure r (toAmount r n) in
     rw (le-leb 0 m (omega arith), le-leb m (largest r) (rounded-le r n (between-le 0 (largest r) n e)))
 
-pub range-after-put : (v : Value) (st : Settings) → inRange v ≡ true → AllInRange st → AllInRange (put v st)
+pub range-after-put : (v : SettingValue) (st : Settings) → inRange v ≡ true → AllInRange st → AllInRange (put v st)
 unfolding inRange shown put
 range-after-put (weight n) st e h CpuWeight = e
 range-after-put (weight n) st e h CpuMax = h CpuMax
@@ -190,8 +190,8 @@ range-after-put (bandwidth q none) st e h (Max r) = h (Max r)
 range-after-put (bandwidth q (some p)) st e h CpuWeight = h CpuWeight
 range-after-put (bandwidth q (some p)) st e h CpuMax = e
 range-after-put (bandwidth q (some p)) st e h (Max r) = h (Max r)
-range-after-put (max r l) st e h CpuWeight = h CpuWeight
-range-after-put (max r l) st e h CpuMax = h CpuMax
-range-after-put (max r l) st e h (Max x) =
+range-after-put (maximum r l) st e h CpuWeight = h CpuWeight
+range-after-put (maximum r l) st e h CpuMax = h CpuMax
+range-after-put (maximum r l) st e h (Max x) =
     withLimit-all (λ y m. figureIn 0 (largest y) (mapLimit (toFigure y) m) ≡ true) r _ (st .limit)
     (figureIn-rounded r l e) (λ y. h (Max y)) x

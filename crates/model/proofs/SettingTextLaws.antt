@@ -9,7 +9,7 @@ use lib.ListN.{length, length-append}
 use Rattle.model.specs.Sizes.{longestLine}
 use Rattle.model.specs.Tree.{Settings}
 use Rattle.model.specs.Text.{bytes, ended, sameBytes, lineWords, digitsFrom, numberWord, decimal}
-use Rattle.model.specs.Settings.{Value, weight, bandwidth, max, limitWord, valueOf, between, largest, figureIn, inRange, shown, limitText, valueText}
+use Rattle.model.specs.Settings.{SettingValue, weight, bandwidth, maximum, limitWord, valueOf, between, largest, figureIn, inRange, shown, limitText, valueText}
 use Rattle.model.specs.declared.Resource.{Resource}
 use Rattle.model.specs.declared.Resource.the-variants.{Pages, Processes}
 use Rattle.model.specs.declared.Limit.{Limit}
@@ -64,14 +64,14 @@ largest-lt : (r : Resource) → largest r < 10 ^ 16
 largest-lt Pages = omega arith
 largest-lt Processes = omega arith
 
-length-valueText : (v : Value) → inRange v ≡ true → length (valueText v) ≤ 33
+length-valueText : (v : SettingValue) → inRange v ≡ true → length (valueText v) ≤ 33
 unfolding inRange valueText
 length-valueText (weight n) e = omega (arith, length-figure 1 10000 n (omega arith) e)
 length-valueText (bandwidth q none) e = omega (arith, length-quota q none e)
 length-valueText (bandwidth q (some p)) e =
     let k = length-figure 1000 1000000 p (omega arith) (range-of-period q (some p) e) in
     simp length-append (omega (arith, length-quota q (some p) e))
-length-valueText (max r l) e = omega (arith, length-limitText 0 (largest r) l (largest-lt r) e)
+length-valueText (maximum r l) e = omega (arith, length-limitText 0 (largest r) l (largest-lt r) e)
 
-pub length-line : (v : Value) → inRange v ≡ true → length (ended (valueText v)) ≤ longestLine
+pub length-line : (v : SettingValue) → inRange v ≡ true → length (ended (valueText v)) ≤ longestLine
 length-line v e = simp length-append (omega (arith, length-valueText v e))

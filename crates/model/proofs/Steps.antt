@@ -12,16 +12,16 @@ use Rattle.model.specs.Functions.{upd, passes, known}
 use Rattle.model.specs.Sizes.{groups, processes}
 use Rattle.model.specs.Checks.{Pass}
 use Rattle.model.specs.Tree.{Tree, Core, Group, at, isLive, settingsOf, atGroup, cores, lives, parents, depths, sets, settingsAt, places}
-use Rattle.model.specs.Hierarchy.{childOf, ownPages, usage, factsOf}
+use Rattle.model.specs.Hierarchy.{on, onIn, childOf, ownPages, usage, factsOf}
 use Rattle.model.specs.Control.{asked, isWanted, anyController}
-use Rattle.model.specs.Settings.{settingController, Value, inRange, valueOf}
+use Rattle.model.specs.Settings.{settingController, SettingValue, inRange, valueOf}
 use Rattle.model.specs.Text.{lineWords}
 use Rattle.model.specs.Rooms.{over, actingLimit}
 use Rattle.model.specs.Names.{settingNamed}
-use Rattle.model.specs.Rules.{on, available, standsIn, processGroup, hasChild, hasProcess, heldByChild, lineProcess, joining, leaving}
+use Rattle.model.specs.Rules.{available, standsIn, processGroup, hasChild, hasProcess, heldByChild, lineProcess, joining, leaving}
 use Rattle.model.specs.Calls.{Call, make, remove, handOver, writeProcs, writeControl, writeSetting, admit, fork, exit, charge, release, read, membership, settingValue, chargeChecks, forkChecks, checks, verdict}
 use Rattle.model.specs.Effects.{charged, uncharged, newSet, controlled, written, effect, step, run}
-use Rattle.model.specs.WellFormed.{onIn, WellFormed}
+use Rattle.model.specs.WellFormed.{WellFormed}
 use Rattle.model.specs.declared.Resource.the-variants.{Pages}
 use Rattle.model.specs.declared.Controller.{Controller}
 use Rattle.model.specs.declared.Setting.{Setting}
@@ -110,7 +110,7 @@ module _ (t : Tree) (w : WellFormed t) where
   controller-apart s c g y n e = clash (onIn (parents t) (sets t) c g) (rw e at y) n
 
   -- a setting written
-  kept-value : (g : ℕ) (s : Setting) (ws : List (List ℕ)) (v : Option Value) → valueOf s ws ≡ v → lives t g ≡ true
+  kept-value : (g : ℕ) (s : Setting) (ws : List (List ℕ)) (v : Option SettingValue) → valueOf s ws ≡ v → lives t g ≡ true
       → on t (settingController s) g ≡ true → known v ≡ true → passes v inRange ≡ true → WellFormed (atGroup t g (written v (t .group g)))
   kept-value g s ws none e l o k r = clash false k refl
   kept-value g s ws (some v) e l o k r =

@@ -14,9 +14,9 @@ use Rattle.model.specs.Rules.{hasChild, hasProcess, heldByChild, oneNumb
 use Rattle.model.specs.Files.{processLines, namesOf, nameLine, contents, path, membershipLine}
 use Rattle.model.specs.Calls.{chargeChecks, forkChecks, checks, verdict}
 use Rattle.model.specs.Effects.{effect, step, fresh, run}
-use Rattle.model.specs.Replies.{chargeAnswer, forkAnswer, reply}
+use Rattle.model.specs.Replies.{chargeAnswer, forkAnswer, reply, replyBy}
 use Rattle.model.specs.Worked.{holds, allHold, table}
 
 pub all-hold : allHold table ≡ true
-unfolding upd weigh sum any member groups processes deepest first climb chain inside firstCommon commonAncestor held usage population sameBytes body leadingWord startsIn words digitsFrom numberWord digits decimal spaced named isControlWord askedBy askedFrom firstBad badRest anyIn limitWord valueOf inRange put shown valueText reset actingLimit consult hasChild hasProcess heldByChild oneNumber processLines namesOf nameLine contents path membershipLine chargeChecks forkChecks checks verdict effect step fresh run chargeAnswer forkAnswer reply holds allHold table
+unfolding upd weigh sum any member groups processes deepest first climb chain inside firstCommon commonAncestor held usage population sameBytes body leadingWord startsIn words digitsFrom numberWord digits decimal spaced named isControlWord askedBy askedFrom firstBad badRest anyIn limitWord valueOf inRange put shown valueText reset actingLimit consult hasChild hasProcess heldByChild oneNumber processLines namesOf nameLine contents path membershipLine chargeChecks forkChecks checks verdict effect step fresh run chargeAnswer forkAnswer reply replyBy holds allHold table
 all-hold = refl

@@ -11,11 +11,11 @@ use Rattle.model.specs.Functions.{known, passes}
 use Rattle.model.specs.Sizes.{groups, longestLine}
 use Rattle.model.specs.Checks.{Pass}
 use Rattle.model.specs.Tree.{Tree, Group, lives, parents, settingsAt}
-use Rattle.model.specs.Hierarchy.{factsOf}
+use Rattle.model.specs.Hierarchy.{on, factsOf}
 use Rattle.model.specs.Text.{tooLong}
 use Rattle.model.specs.Names.{settingName, settingNamed}
 use Rattle.model.specs.Settings.{settingController, shown, inRange}
-use Rattle.model.specs.Rules.{noGroupNumber, mayWrite, on}
+use Rattle.model.specs.Rules.{noGroupNumber, mayWrite}
 use Rattle.model.specs.Files.{contents}
 use Rattle.model.specs.Calls.{checks, lineValue, verdict}
 use Rattle.model.specs.Effects.{effect, step}

@@ -7,10 +7,10 @@ use mathlib.Core.List.{List, [], _∷_}
 use mathlib.Core.Option.{Option, none, some}
 use Rattle.model.specs.Functions.{upd, pick}
 use Rattle.model.specs.Sizes.{largestMachine}
-use Rattle.model.specs.Tree.{Core, Place, nowhere, at, groupOf, controllerOf, noCore, newCore, withOwn, withLimits, withLimit}
+use Rattle.model.specs.Tree.{Core, Place, nowhere, at, groupOf, controllerOf}
 use Rattle.model.specs.Hierarchy.{usage, amount, childOf}
 use Rattle.model.specs.Control.{asked, isDropped}
-use Rattle.model.specs.Settings.{Value, weight, bandwidth, max, mapLimit, toAmount}
+use Rattle.model.specs.Settings.{SettingValue, weight, bandwidth, maximum, mapLimit, toAmount}
 use Rattle.model.specs.Rules.{lineProcess}
 use Rattle.model.specs.Calls.{Call, make, remove, handOver, writeProcs, writeControl, writeSetting, admit, fork, exit, charge, release, read, membership, lineValue}
 use Rattle.model.specs.declared.Resource.{Resource}
@@ -19,7 +19,8 @@ use Rattle.model.specs.declared.Limit.{Limit}
 use Rattle.model.specs.declared.Limit.the-variants.{NoLimit}
 
 -- "It keeps the live groups with parent, own pages, memory limit, pids limit and a mark, and where each live process stands."
--- The mark, in document 01's word, is the usage when the memory limit was last written.
+-- The mark, in document 01's word, is the usage when the memory limit was last written. It is read only beside a limit, so
+-- what it is in a group that has none does not matter.
 pub record Book : Type 0 where
   pub machine : ℕ
   pub group : ℕ → Core
@@ -37,43 +38,66 @@ enterGroup b g c = record { machine = b .machine; group = upd (b .group) g c; ma
 abbrev pub enterPlace : Book → ℕ → Place → Book
 enterPlace b p l = record { machine = b .machine; group = b .group; mark = b .mark; place = upd (b .place) p l }
 
+-- a group that is live under its parent, "no pages, no limits", and one that is not live
+abbrev pub entryUnder : ℕ → Core
+entryUnder parent = record { live = true; parent = parent; own = 0; limit = λ r. NoLimit }
+
+abbrev pub noEntry : Core
+noEntry = record { live = false; parent = 0; own = 0; limit = λ r. NoLimit }
+
+-- own pages entered
+abbrev pub enterOwn : Book → ℕ → ℕ → Book
+enterOwn b g n =
+    let c : Core = b .group g in
+    enterGroup b g (record { live = c .live; parent = c .parent; own = n; limit = c .limit })
+
 -- "G's own pages go to its parent; G is no longer live."
-abbrev pub handedUp : Book → ℕ → Book
-handedUp b g =
+abbrev pub enterRemoval : Book → ℕ → Book
+enterRemoval b g =
     let h : ℕ = b .group g .parent in
-    enterGroup (enterGroup b h (withOwn (b .group h .own + b .group g .own) (b .group h))) g noCore
+    enterGroup (enterOwn b h (b .group h .own + b .group g .own)) g noEntry
 
 -- "G's limit becomes the line's, as that call reads it; for memory.max the mark becomes G's usage at that moment."
 abbrev pub markAfter : Resource → Book → ℕ → ℕ → ℕ
 markAfter Pages b g = upd (b .mark) g (usage (b .group) g)
 markAfter Processes b g = b .mark
 
+abbrev pub limitEntered : Resource → Limit → (Resource → Limit) → Resource → Limit
+limitEntered Pages l old Pages = l
+limitEntered Pages l old Processes = old Processes
+limitEntered Processes l old Pages = old Pages
+limitEntered Processes l old Processes = l
+
+-- limits entered in one group
+abbrev pub withEntries : (Resource → Limit) → Core → Core
+withEntries l c = record { live = c .live; parent = c .parent; own = c .own; limit = l }
+
 abbrev pub enterLimit : Book → ℕ → Resource → Limit → Book
 enterLimit b g r l =
     record {
       machine = b .machine;
-      group = upd (b .group) g (withLimits (withLimit r l (b .group g .limit)) (b .group g));
+      group = upd (b .group) g (withEntries (limitEntered r l (b .group g .limit)) (b .group g));
       mark = markAfter r b g;
       place = b .place;
     }
 
-abbrev pub enterValue : Book → ℕ → Option Value → Book
+abbrev pub enterValue : Book → ℕ → Option SettingValue → Book
 enterValue b g none = b
 enterValue b g (some (weight n)) = b
 enterValue b g (some (bandwidth q p)) = b
-enterValue b g (some (max r l)) = enterLimit b g r (mapLimit (toAmount r) l)
+enterValue b g (some (maximum r l)) = enterLimit b g r (mapLimit (toAmount r) l)
 
 -- "where the last word on memory is "-memory", G's children lose their memory limits; the same for pids"
 abbrev pub limitsAfter : List ℕ → (Resource → Limit) → Resource → Limit
 limitsAfter line l r = pick (isDropped (asked line (controllerOf r))) NoLimit (l r)
 
 abbrev pub childAfter : ℕ → List ℕ → ℕ → Core → Core
-childAfter g line k c = elim (childOf g k c) [ true ↦ withLimits (limitsAfter line (c .limit)) c | false ↦ c ]
+childAfter g line k c = elim (childOf g k c) [ true ↦ withEntries (limitsAfter line (c .limit)) c | false ↦ c ]
 
 -- an accepted call
 unfoldable pub enter : Book → Call → Book
-enter b (make user parent new) = enterGroup b new (newCore parent)
-enter b (remove user g) = handedUp b g
+enter b (make user parent new) = enterGroup b new (entryUnder parent)
+enter b (remove user g) = enterRemoval b g
 enter b (handOver user g owner) = b
 enter b (writeProcs user g line) = enterPlace b (lineProcess line) (at g)
 enter b (writeControl user g line) =
@@ -84,8 +108,8 @@ enter b (fork p new) = enterPlace b new (b .place p)
 enter b (exit p) = enterPlace b p nowhere
 enter b (charge p n) =
     let g : ℕ = groupOf (b .place p) in
-    enterGroup b g (withOwn (b .group g .own + n) (b .group g))
-enter b (release g n) = enterGroup b g (withOwn (b .group g .own - n) (b .group g))
+    enterOwn b g (b .group g .own + n)
+enter b (release g n) = enterOwn b g (b .group g .own - n)
 enter b (read g file buffer) = b
 enter b (membership p buffer) = b
 
@@ -99,7 +123,7 @@ unfoldable pub freshBook : ℕ → Book
 freshBook m =
     record {
       machine = min m largestMachine;
-      group = upd (λ g. noCore) 0 (newCore 0);
+      group = upd (λ g. noEntry) 0 (entryUnder 0);
       mark = λ g. 0;
       place = λ p. nowhere;
     }

@@ -10,13 +10,13 @@ use Rattle.model.specs.Functions.{known, passes, orElse, mapped}
 use Rattle.model.specs.Sizes.{deepest, largestCharge}
 use Rattle.model.specs.Checks.{Check, bar, need, first}
 use Rattle.model.specs.Tree.{Tree, isLive, lives, parents, depths, sets, places}
-use Rattle.model.specs.Hierarchy.{Facts, factsOf}
+use Rattle.model.specs.Hierarchy.{on, Facts, factsOf}
 use Rattle.model.specs.Text.{tooLong, lineWords}
 use Rattle.model.specs.Names.{settingNamed, fileNamed}
 use Rattle.model.specs.Control.{asked, isWanted, hasBadWord, anyController}
-use Rattle.model.specs.Settings.{settingController, Value, valueOf, inRange}
+use Rattle.model.specs.Settings.{settingController, SettingValue, valueOf, inRange}
 use Rattle.model.specs.Rooms.{roomFor, isFull, shortage}
-use Rattle.model.specs.Rules.{noGroupNumber, noProcessNumber, mayWrite, on, available, processGroup, hasChild, hasProcess, heldByChild, numberLine, lineProcess, mayMove, joining, leaving}
+use Rattle.model.specs.Rules.{noGroupNumber, noProcessNumber, mayWrite, available, processGroup, hasChild, hasProcess, heldByChild, numberLine, lineProcess, mayMove, joining, leaving}
 use Rattle.model.specs.Files.{isPresent, contents, membershipLine, fits}
 use Rattle.model.specs.declared.Resource.{Resource}
 use Rattle.model.specs.declared.Resource.the-variants.{Pages, Processes}
@@ -41,11 +41,11 @@ pub data Call : Type 0 where
   membership : (p : ℕ) (buffer : List ℕ) → Call
 
 -- the value that a line gives the setting of that name
-abbrev pub settingValue : Option Setting → List ℕ → Option Value
+abbrev pub settingValue : Option Setting → List ℕ → Option SettingValue
 settingValue none line = none
 settingValue (some s) line = valueOf s (lineWords line)
 
-abbrev pub lineValue : List ℕ → List ℕ → Option Value
+abbrev pub lineValue : List ℕ → List ℕ → Option SettingValue
 lineValue file line = settingValue (settingNamed file) line
 
 -- the text of the file of that name
@@ -156,5 +156,8 @@ checks f (membership p buffer) =
     ∷ []
 
 -- what a call answers: success, or the number of the first check that refuses
+abbrev pub verdictBy : Facts → Call → Answer
+verdictBy f c = first (checks f c)
+
 unfoldable pub verdict : Tree → Call → Answer
-verdict t c = first (checks (factsOf t) c)
+verdict t c = verdictBy (factsOf t) c

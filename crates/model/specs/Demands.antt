@@ -1,22 +1,24 @@
--- The three demands, as statements about the definitions. proofs/Demands.antt shows them. Assumes nothing.
-use Prim.Native.Nat.{ℕ, _≤_, max}
+-- The three demands that the README quotes, as statements about the definitions. `Demands` at the end is all of them, and
+-- proofs/Demands.antt shows it. Assumes nothing.
+use Prim.Native.Nat.{ℕ, suc, _≤_, max}
 use mathlib.Core.Bool.{true, false}
 use mathlib.Core.List.{List, [], _∷_, _++_}
 use mathlib.Core.Logic.{_≢_}
 use mathlib.Core.Option.{Option, none, some}
 use mathlib.Core.Path.{_≡_}
 use Rattle.model.specs.Checks.{errnoNumber, Says}
-use Rattle.model.specs.Tree.{Tree, at, groupOf, controllerOf, cores, lives, parents, owners, places}
-use Rattle.model.specs.Hierarchy.{inside, amount, factsOf}
+use Rattle.model.specs.Tree.{Tree, depths, at, groupOf, controllerOf, cores, lives, parents, owners, places}
+use Rattle.model.specs.Hierarchy.{chain, commonAncestor, on, inside, amount, factsOf}
 use Rattle.model.specs.Text.{ended, decimal}
 use Rattle.model.specs.Names.{settingName, fileName}
 use Rattle.model.specs.Settings.{settingController, toFigure}
-use Rattle.model.specs.Rooms.{over}
-use Rattle.model.specs.Rules.{mayWrite, on}
+use Rattle.model.specs.Rooms.{over, actingLimit, room, full, Stopped, roomFor}
+use Rattle.model.specs.Rules.{mayWrite}
 use Rattle.model.specs.Files.{contents, fits}
 use Rattle.model.specs.Calls.{Call, make, remove, handOver, writeProcs, writeControl, writeSetting, admit, fork, exit, charge, release, read, membership, checks, verdict}
 use Rattle.model.specs.Effects.{effect, step, fresh, run}
 use Rattle.model.specs.Replies.{reply, textReply, bufferOf}
+use Rattle.model.specs.WellFormed.{WellFormed}
 use Rattle.model.specs.Book.{Book, inBook, Entry, freshBook, fed}
 use Rattle.model.specs.declared.Resource.{Resource}
 use Rattle.model.specs.declared.Resource.the-variants.{Pages, Processes}
@@ -25,7 +27,7 @@ use Rattle.model.specs.declared.Setting.{Setting}
 use Rattle.model.specs.declared.File.the-variants.{Current, Value}
 use Rattle.model.specs.declared.Errno.{Errno}
 use Rattle.model.specs.declared.Answer.{Answer}
-use Rattle.model.specs.declared.Answer.the-variants.{Done}
+use Rattle.model.specs.declared.Answer.the-variants.{Done, Refused}
 
 -- a tree that calls can reach from a fresh one of some size
 pub record Reachable (t : Tree) : Type 0 where
@@ -33,12 +35,23 @@ pub record Reachable (t : Tree) : Type 0 where
   pub calls : List Call
   pub made : run (fresh size) calls ≡ t
 
--- Demand 1. "A call turned away gives document 01's number and leaves tree, processes, charges and reply buffer untouched."
+-- "every call is shown to hand back such a tree", and the rules that such a tree keeps
+pub record Reaching : Type 0 where
+  pub begins : (m : ℕ) → Reachable (fresh m)
+  pub goesOn : (t : Tree) (c : Call) → Reachable t → Reachable (step t c)
+  pub formed : (t : Tree) → Reachable t → WellFormed t
+  pub kept : (t : Tree) (c : Call) → WellFormed t → WellFormed (step t c)
+
+-- Demand 1. Every call has an answer, since the definitions are total. "A call turned away gives document 01's number and leaves tree, processes, charges and reply buffer untouched."
 pub record TurnedAway (t : Tree) (c : Call) (e : Errno) : Type 0 where
   pub number : reply t c .number ≡ errnoNumber e
   pub tree : step t c ≡ t
   pub buffer : reply t c .buffer ≡ bufferOf c
   pub told : reply t c .told ≡ 0
+
+pub record Demand1 : Type 0 where
+  pub refused : (t : Tree) (c : Call) (e : Errno) → verdict t c ≡ Refused e → TurnedAway t c e
+  pub numbered : (t : Tree) (c : Call) → reply t c .number ≡ 0 → verdict t c ≡ Done
 
 -- Demand 2. "Calls are turned away exactly when a listed rule says so, and otherwise do exactly what the rule says."
 pub record Exactly (t : Tree) (c : Call) : Type 0 where
@@ -82,6 +95,27 @@ pub record Contained (t : Tree) : Type 0 where
       → (p g h : ℕ) → places t p ≡ at g → places (step t c) p ≡ at h → inside (parents t) d g ≡ inside (parents t) d h
   pub nobody : (c : Call) → caller c ≡ none → (p g h : ℕ) → places t p ≡ at g → places (step t c) p ≡ at h → g ≡ h
 
+-- "the number of groups consulted: up to and including that group, or depth plus one on success"; the group named is the first
+-- on the chain without room
+pub record Counted (t : Tree) : Type 0 where
+  pub success : (r : Resource) (n g k : ℕ) → lives t g ≡ true → roomFor (factsOf t) r n g ≡ room k → k ≡ suc (depths t g)
+  pub stopped : (r : Resource) (n g h k : ℕ) → roomFor (factsOf t) r n g ≡ full h k
+      → (i : ℕ) × (k ≡ suc i) × Stopped (actingLimit t r) (factsOf t .amount r) n (chain (parents t) g) h i
+
+-- "the lowest group that is on both chains"
+pub record Lowest (t : Tree) : Type 0 where
+  pub left : (g h : ℕ) → lives t g ≡ true → inside (parents t) (commonAncestor (parents t) g h) g ≡ true
+  pub right : (g h : ℕ) → lives t h ≡ true → inside (parents t) (commonAncestor (parents t) g h) h ≡ true
+  pub below : (g h a : ℕ) → lives t g ≡ true → inside (parents t) a g ≡ true → inside (parents t) a h ≡ true
+      → inside (parents t) a (commonAncestor (parents t) g h) ≡ true
+
+pub record Demand2 : Type 0 where
+  pub exactly : (t : Tree) (c : Call) → Exactly t c
+  pub counted : (t : Tree) → WellFormed t → Counted t
+  pub lowest : (t : Tree) → WellFormed t → Lowest t
+  pub writeBack : (t : Tree) → WellFormed t → WriteBack t
+  pub contained : (t : Tree) → WellFormed t → Contained t
+
 -- Demand 3. The calls with the numbers that they answered, and the tree and the book after them.
 unfoldable pub log : Tree → List Call → List Entry
 log t [] = []
@@ -114,12 +148,14 @@ pub record Bounded (b : Book) : Type 0 where
   pub machine : inBook b Pages 0 ≤ b .machine
   pub pages : (g l : ℕ) → b .group g .live ≡ true → b .group g .limit Pages ≡ Figure l → inBook b Pages g ≤ max l (b .mark g)
 
--- a call that asks for more of a resource, and the process it asks for
-pub data Claims : Resource → ℕ → Call → Type 0 where
-  byCharge : {p n : ℕ} → Claims Pages p (charge p n)
-  byFork : {p new : ℕ} → Claims Processes p (fork p new)
+-- A call that adds to what stands inside groups, and the process that it does so for: a charge; a birth, which "is admit or
+-- fork".
+pub data Adds : Resource → ℕ → Call → Type 0 where
+  byCharge : {p n : ℕ} → Adds Pages p (charge p n)
+  byFork : {parent new : ℕ} → Adds Processes new (fork parent new)
+  byAdmit : {p user : ℕ} → Adds Processes p (admit p user)
 
--- no group on the way up from g is over its limit
+-- no group on the way up from g, "the chain of the process's group", is over its limit
 abbrev pub NoneOver : Resource → Book → ℕ → Type 0
 NoneOver r b g = (a : ℕ) → inside (λ k. b .group k .parent) a g ≡ true → over (inBook b r a) (b .group a .limit r) ≡ false
 
@@ -127,6 +163,12 @@ NoneOver r b g = (a : ℕ) → inside (λ k. b .group k .parent) a g ≡ true �
 pub record Demand3 (m : ℕ) (cs : List Call) : Type 0 where
   pub alike : Alike (treeAfter m cs) (bookAfter m cs)
   pub bounded : Bounded (bookAfter m cs)
-  pub granted : (r : Resource) (p : ℕ) (c : Call) (xs ys : List Call) → Claims r p c → cs ≡ xs ++ (c ∷ ys)
+  pub accepted : (r : Resource) (p : ℕ) (c : Call) (xs ys : List Call) → Adds r p c → cs ≡ xs ++ (c ∷ ys)
       → reply (treeAfter m xs) c .number ≡ 0
-      → NoneOver r (bookAfter m (xs ++ (c ∷ []))) (groupOf (bookAfter m xs .place p))
+      → NoneOver r (bookAfter m (xs ++ (c ∷ []))) (groupOf (bookAfter m (xs ++ (c ∷ [])) .place p))
+
+pub record Demands : Type 0 where
+  pub reaching : Reaching
+  pub first : Demand1
+  pub second : Demand2
+  pub third : (m : ℕ) (cs : List Call) → Demand3 m cs

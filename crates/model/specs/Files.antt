@@ -7,11 +7,11 @@ use lib.ListN.{length, drop}
 use Rattle.model.specs.Functions.{pick}
 use Rattle.model.specs.Sizes.{processes, deepest}
 use Rattle.model.specs.Tree.{Tree, Place, controllerOf, parents, places, sets, settingsAt}
-use Rattle.model.specs.Hierarchy.{Facts}
+use Rattle.model.specs.Hierarchy.{on, Facts}
 use Rattle.model.specs.Text.{bytes, ended, decimal, spaced}
 use Rattle.model.specs.Names.{controllers, controllerName}
 use Rattle.model.specs.Settings.{settingController, toFigure, shown, valueText}
-use Rattle.model.specs.Rules.{on, available, standsIn, processGroup}
+use Rattle.model.specs.Rules.{available, standsIn, processGroup}
 use Rattle.model.specs.declared.Resource.{Resource}
 use Rattle.model.specs.declared.Controller.{Controller}
 use Rattle.model.specs.declared.File.{File}
@@ -61,9 +61,10 @@ unfoldable pub membershipLine : Tree → ℕ → List ℕ
 membershipLine t p =
     ended (bytes "0::" ++ pick (eqb (processGroup t p) 0) (bytes "/") (path (parents t) deepest (processGroup t p)))
 
--- "The text goes to the front and its length is told; bytes after it stay."
+-- 28: "reply buffer shorter than the reply"
 abbrev pub fits : List ℕ → List ℕ → Bool
 fits text buffer = leb (length text) (length buffer)
 
+-- "The text goes to the front and its length is told; bytes after it stay."
 abbrev pub delivered : List ℕ → List ℕ → List ℕ
 delivered text buffer = text ++ drop (length text) buffer

@@ -1,4 +1,5 @@
--- The names of controllers and files, and which name is which. Assumes nothing.
+-- The names of controllers and files, and which name is which: document 01, "What the host keeps" and "What a reader sees".
+-- Assumes nothing.
 use Prim.Native.Nat.{ℕ}
 use mathlib.Core.List.{List, [], _∷_}
 use mathlib.Core.Option.{Option, none, some}

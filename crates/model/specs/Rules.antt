@@ -1,13 +1,13 @@
--- The tests that the checks are made of. Assumes nothing.
+-- The tests that the checks of document 01, "Calls and the order of their checks", are made of. Assumes nothing.
 use Prim.Native.Nat.{ℕ}
-use mathlib.Core.Bool.{Bool, false, not, _&&_, _||_}
+use mathlib.Core.Bool.{Bool, false, _&&_, _||_}
 use mathlib.Core.List.{List, [], _∷_}
 use mathlib.Core.Option.{Option, none}
 use lib.Dec.{eqb, leb}
 use Rattle.model.specs.Functions.{any, orElse}
 use Rattle.model.specs.Sizes.{groups, processes}
 use Rattle.model.specs.Tree.{Tree, Place, nowhere, at, groupOf, cores, parents, owners, sets, places}
-use Rattle.model.specs.Hierarchy.{childOf, commonAncestor}
+use Rattle.model.specs.Hierarchy.{on, childOf, commonAncestor}
 use Rattle.model.specs.Text.{numberWord, lineWords}
 use Rattle.model.specs.Control.{asked, joins, leaves}
 use Rattle.model.specs.declared.Controller.{Controller}
@@ -23,13 +23,9 @@ noProcessNumber p = leb processes p
 abbrev pub mayWrite : Tree → ℕ → ℕ → Bool
 mayWrite t user g = eqb user 0 || eqb user (owners t g)
 
--- "A controller is on in G if G is not the root and G's parent has it in its set."
-abbrev pub on : Tree → Controller → ℕ → Bool
-on t c g = not (eqb g 0) && sets t (parents t g) c
-
 -- "the root has all three, others what is on"
 abbrev pub available : Tree → Controller → ℕ → Bool
-available t c g = eqb g 0 || sets t (parents t g) c
+available t c g = eqb g 0 || on t c g
 
 -- whether a process stands in g
 abbrev pub standsIn : Place → ℕ → Bool

@@ -26,10 +26,10 @@ settingController CpuMax = Cpu
 settingController (Max r) = controllerOf r
 
 -- What a line gives a setting, in the file's own figures: cpu.weight; the quota of cpu.max and perhaps its period; a limit.
-pub data Value : Type 0 where
-  weight : ℕ → Value
-  bandwidth : Limit → Option ℕ → Value
-  max : Resource → Limit → Value
+pub data SettingValue : Type 0 where
+  weight : ℕ → SettingValue
+  bandwidth : Limit → Option ℕ → SettingValue
+  maximum : Resource → Limit → SettingValue
 
 -- The form of a value.
 -- "max", or a number word
@@ -37,17 +37,17 @@ unfoldable pub limitWord : List ℕ → Option Limit
 limitWord w = pick (sameBytes w (bytes "max")) (some NoLimit) (mapped Figure (numberWord w))
 
 -- a quota and a period, both well formed
-abbrev pub bandwidthOf : Option Limit → Option ℕ → Option Value
+abbrev pub bandwidthOf : Option Limit → Option ℕ → Option SettingValue
 bandwidthOf none p = none
 bandwidthOf (some q) none = none
 bandwidthOf (some q) (some p) = some (bandwidth q (some p))
 
 -- "Settings take one word, cpu.max one or two."
-unfoldable pub valueOf : Setting → List (List ℕ) → Option Value
+unfoldable pub valueOf : Setting → List (List ℕ) → Option SettingValue
 valueOf s [] = none
 valueOf CpuWeight (w ∷ []) = mapped weight (numberWord w)
 valueOf CpuMax (w ∷ []) = mapped (λ q. bandwidth q none) (limitWord w)
-valueOf (Max r) (w ∷ []) = mapped (max r) (limitWord w)
+valueOf (Max r) (w ∷ []) = mapped (maximum r) (limitWord w)
 valueOf CpuWeight (w ∷ v ∷ []) = none
 valueOf CpuMax (w ∷ v ∷ []) = bandwidthOf (limitWord w) (numberWord v)
 valueOf (Max r) (w ∷ v ∷ []) = none
@@ -70,10 +70,10 @@ abbrev pub periodIn : Option ℕ → Bool
 periodIn none = true
 periodIn (some p) = between 1000 1000000 p
 
-unfoldable pub inRange : Value → Bool
+unfoldable pub inRange : SettingValue → Bool
 inRange (weight n) = between 1 10000 n
 inRange (bandwidth q p) = figureIn 1000 1000000000 q && periodIn p
-inRange (max r l) = figureIn 0 (largest r) l
+inRange (maximum r l) = figureIn 0 (largest r) l
 
 -- The effect of a value.
 -- "rounded up to a whole page"
@@ -94,30 +94,30 @@ mapLimit f NoLimit = NoLimit
 mapLimit f (Figure n) = Figure (f n)
 
 -- "One word leaves the period."
-unfoldable pub put : Value → Settings → Settings
+unfoldable pub put : SettingValue → Settings → Settings
 put (weight n) s =
     record { limit = s .limit; cpu = record { weight = n; quota = s .cpu .quota; period = s .cpu .period } }
 put (bandwidth q none) s =
     record { limit = s .limit; cpu = record { weight = s .cpu .weight; quota = q; period = s .cpu .period } }
 put (bandwidth q (some p)) s =
     record { limit = s .limit; cpu = record { weight = s .cpu .weight; quota = q; period = p } }
-put (max r l) s = record { limit = withLimit r (mapLimit (toAmount r) l) (s .limit); cpu = s .cpu }
+put (maximum r l) s = record { limit = withLimit r (mapLimit (toAmount r) l) (s .limit); cpu = s .cpu }
 
 -- What a reader sees of a setting: its value, and the value as text.
-unfoldable pub shown : Setting → Settings → Value
+unfoldable pub shown : Setting → Settings → SettingValue
 shown CpuWeight s = weight (s .cpu .weight)
 shown CpuMax s = bandwidth (s .cpu .quota) (some (s .cpu .period))
-shown (Max r) s = max r (mapLimit (toFigure r) (s .limit r))
+shown (Max r) s = maximum r (mapLimit (toFigure r) (s .limit r))
 
 abbrev pub limitText : Limit → List ℕ
 limitText NoLimit = bytes "max"
 limitText (Figure n) = decimal n
 
-unfoldable pub valueText : Value → List ℕ
+unfoldable pub valueText : SettingValue → List ℕ
 valueText (weight n) = decimal n
 valueText (bandwidth q none) = limitText q
 valueText (bandwidth q (some p)) = limitText q ++ (space ∷ decimal p)
-valueText (max r l) = limitText l
+valueText (maximum r l) = limitText l
 
 -- "Settings and defaults": whether a controller's settings are at their defaults
 unfoldable pub AtDefault : Controller → Settings → Type 0

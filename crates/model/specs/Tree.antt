@@ -48,6 +48,7 @@ pub record Process : Type 0 where
   pub place : Place
   pub user : ℕ
 
+-- `machine` is document 01's machine size, in pages.
 pub record Tree : Type 0 where
   pub machine : ℕ
   pub group : ℕ → Group
@@ -71,7 +72,7 @@ noProcess = record { place = nowhere; user = 0 }
 abbrev pub defaultCpu : CpuSettings
 defaultCpu = record { weight = 100; quota = NoLimit; period = 100000 }
 
--- a group when it is made: no pages, no limits, an empty set
+-- A group when it is made: no pages, no limits; an empty set, the defaults.
 abbrev pub newCore : ℕ → Core
 newCore parent = record { live = true; parent = parent; own = 0; limit = λ r. NoLimit }
 

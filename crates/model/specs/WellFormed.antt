@@ -1,12 +1,12 @@
--- The rules that every tree keeps which calls can reach, as small records over the functions they speak of. Assumes nothing.
+-- The rules that every tree keeps which calls can reach, as small records over the functions they speak of: document 01,
+-- "What the host keeps". Assumes nothing.
 use Prim.Native.Nat.{ℕ, suc, _≤_, _<_}
-use mathlib.Core.Bool.{Bool, true, false, not, _&&_}
+use mathlib.Core.Bool.{Bool, true, false}
 use mathlib.Core.Logic.{_≢_}
 use mathlib.Core.Path.{_≡_}
-use lib.Dec.{eqb}
 use Rattle.model.specs.Sizes.{groups, processes, deepest, largestMachine}
 use Rattle.model.specs.Tree.{Tree, Group, Process, Place, nowhere, at, Controls, Settings, noGroup, noProcess, cores, lives, parents, depths, owners, sets, settingsAt, places}
-use Rattle.model.specs.Hierarchy.{usage}
+use Rattle.model.specs.Hierarchy.{onIn, usage}
 use Rattle.model.specs.Settings.{shown, inRange, AtDefault}
 use Rattle.model.specs.declared.Controller.{Controller}
 use Rattle.model.specs.declared.Setting.{Setting}
@@ -27,10 +27,6 @@ pub record Placed (live : ℕ → Bool) (place : ℕ → Place) : Type 0 where
   pub range : (p g : ℕ) → place p ≡ at g → p < processes
   pub none : place 0 ≡ nowhere
 
--- a controller is on in g, from parents and sets
-abbrev pub onIn : (ℕ → ℕ) → (ℕ → Controls) → Controller → ℕ → Bool
-onIn parent set c g = not (eqb g 0) && set (parent g) c
-
 -- every set is within what is on
 pub record TopDown (live : ℕ → Bool) (parent : ℕ → ℕ) (set : ℕ → Controls) : Type 0 where
   pub within : (c : Controller) (g : ℕ) → live g ≡ true → g ≢ 0 → set g c ≡ true → set (parent g) c ≡ true
@@ -49,8 +45,8 @@ pub record NoInternalProcesses (place : ℕ → Place) (set : ℕ → Controls) 
 
 -- nothing is kept of a number that is not live
 pub record Blank (group : ℕ → Group) (process : ℕ → Process) : Type 0 where
-  pub groups : (g : ℕ) → group g .core .live ≡ false → group g ≡ noGroup
-  pub processes : (p : ℕ) → process p .place ≡ nowhere → process p ≡ noProcess
+  pub dead : (g : ℕ) → group g .core .live ≡ false → group g ≡ noGroup
+  pub free : (p : ℕ) → process p .place ≡ nowhere → process p ≡ noProcess
 
 -- "The root's is always 0": its owner
 abbrev pub RootOwned : (ℕ → ℕ) → Type 0

@@ -37,8 +37,8 @@ abbrev pub stopped : Call → ℕ → ℕ → ℕ → Row
 stopped c n g k = row c n (some g) k 0 []
 
 -- a text delivered into a buffer that is four bytes longer
-abbrev pub marks : List ℕ
-marks = 1 ∷ 2 ∷ 3 ∷ 4 ∷ []
+abbrev pub sentinels : List ℕ
+sentinels = 1 ∷ 2 ∷ 3 ∷ 4 ∷ []
 
 abbrev pub blankBytes : List ℕ → List ℕ
 blankBytes [] = []
@@ -46,11 +46,11 @@ blankBytes (b ∷ bs) = 0 ∷ blankBytes bs
 
 abbrev pub reads : ℕ → String → String → Row
 reads g file text =
-    row (read g (bytes file) (blankBytes (bytes text) ++ marks)) 0 none 0 (length (bytes text)) (bytes text ++ marks)
+    row (read g (bytes file) (blankBytes (bytes text) ++ sentinels)) 0 none 0 (length (bytes text)) (bytes text ++ sentinels)
 
 abbrev pub belongs : ℕ → String → Row
 belongs p text =
-    row (membership p (blankBytes (bytes text) ++ marks)) 0 none 0 (length (bytes text)) (bytes text ++ marks)
+    row (membership p (blankBytes (bytes text) ++ sentinels)) 0 none 0 (length (bytes text)) (bytes text ++ sentinels)
 
 -- lines as text
 abbrev pub setting : ℕ → ℕ → String → String → Call
@@ -62,7 +62,7 @@ control user g line = writeControl user g (bytes line)
 abbrev pub procs : ℕ → ℕ → String → Call
 procs user g line = writeProcs user g (bytes line)
 
--- calls one after the other, from a fresh tree
+-- An evening, in document 01's word: calls one after the other, from a fresh tree.
 pub record Evening : Type 0 where
   pub machine : ℕ
   pub rows : List Row
@@ -90,11 +90,10 @@ unfoldable pub allHold : List Evening → Bool
 allHold [] = true
 allHold (e ∷ es) = elim (holds (fresh (e .machine)) (e .rows)) [ true ↦ allHold es | false ↦ false ]
 
-unfoldable pub table : List Evening
-table =
-    -- P1 to P5
-    evening 1024 (
-    succeeds (make 0 0 1)
+abbrev pub limitsAndCharges : Evening
+limitsAndCharges =
+    evening 1024
+    (succeeds (make 0 0 1)
     ∷ succeeds (make 0 1 2)
     ∷ succeeds (control 0 0 "+memory\n")
     ∷ succeeds (control 0 1 "+memory\n")
@@ -102,21 +101,30 @@ table =
     ∷ succeeds (setting 0 2 "memory.max" "32768\n")
     ∷ succeeds (admit 5 7)
     ∷ succeeds (procs 0 2 "5\n")
+    -- P1
     ∷ granted (charge 5 8) 3
+    ∷ reads 1 "memory.current" "32768\n"
+    -- P2
     ∷ stopped (charge 5 1) 12 2 1
+    -- P3
     ∷ succeeds (release 2 2)
     ∷ succeeds (setting 0 1 "memory.max" "20480\n")
     ∷ reads 1 "memory.current" "24576\n"
+    -- P4
     ∷ stopped (charge 5 1) 12 1 2
+    -- P5, in either order
     ∷ succeeds (exit 5)
     ∷ succeeds (remove 0 2)
     ∷ refuses (release 1 7) 34
     ∷ succeeds (release 1 6)
-    ∷ []
-    )
-    -- P6 and P7
-    ∷ evening 0 (
-    succeeds (make 0 0 1)
+    ∷ refuses (release 1 7) 34
+    ∷ [])
+
+-- P6 and P7
+abbrev pub rounding : Evening
+rounding =
+    evening 0
+    (succeeds (make 0 0 1)
     ∷ succeeds (control 0 0 "+memory")
     ∷ succeeds (setting 0 1 "memory.max" "4097")
     ∷ reads 1 "memory.max" "8192\n"
@@ -124,11 +132,13 @@ table =
     ∷ reads 1 "memory.max" "0\n"
     ∷ refuses (setting 0 1 "memory.max" "4503599627370497") 34
     ∷ reads 1 "memory.max" "0\n"
-    ∷ []
-    )
-    -- P8
-    ∷ evening 0 (
-    succeeds (make 0 0 1)
+    ∷ [])
+
+-- P8
+abbrev pub weights : Evening
+weights =
+    evening 0
+    (succeeds (make 0 0 1)
     ∷ succeeds (control 0 0 "+cpu")
     ∷ succeeds (setting 0 1 "cpu.weight" "1")
     ∷ succeeds (setting 0 1 "cpu.weight" "10000")
@@ -136,17 +146,21 @@ table =
     ∷ refuses (setting 0 1 "cpu.weight" "10001") 34
     ∷ refuses (setting 0 1 "cpu.weight" "1 2") 22
     ∷ reads 1 "cpu.weight" "10000\n"
-    ∷ []
-    )
-    -- P9
-    ∷ evening 0 (
-    succeeds (control 0 0 "+cpu -cpu +memory")
+    ∷ [])
+
+-- P9
+abbrev pub lastWord : Evening
+lastWord =
+    evening 0
+    (succeeds (control 0 0 "+cpu -cpu +memory")
     ∷ reads 0 "cgroup.subtree_control" "memory\n"
-    ∷ []
-    )
-    -- P10: 1 is the parent; 2 is C0 with C00, which is 4, below it; 3 is C1 with C10, which is 5
-    ∷ evening 0 (
-    succeeds (make 0 0 1)
+    ∷ [])
+
+-- P10: 1 is the parent; 2 is C0 with C00, which is 4, below it; 3 is C1 with C10, which is 5
+abbrev pub delegation : Evening
+delegation =
+    evening 0
+    (succeeds (make 0 0 1)
     ∷ succeeds (make 0 1 2)
     ∷ succeeds (make 0 1 3)
     ∷ succeeds (handOver 0 2 7)
@@ -157,15 +171,18 @@ table =
     ∷ succeeds (procs 0 5 "9")
     ∷ refuses (procs 7 4 "9") 13
     ∷ reads 5 "cgroup.procs" "9\n"
-    ∷ []
-    )
-    -- P11
-    ∷ evening 0 (
-    succeeds (make 0 0 3)
+    ∷ [])
+
+-- P11
+abbrev pub membershipPath : Evening
+membershipPath =
+    evening 0
+    (succeeds (make 0 0 3)
     ∷ succeeds (make 0 3 7)
     ∷ succeeds (admit 1 0)
     ∷ succeeds (procs 0 7 "1")
     ∷ belongs 1 "0::/3/7\n"
-    ∷ []
-    )
-    ∷ []
+    ∷ [])
+
+unfoldable pub table : List Evening
+table = limitsAndCharges ∷ rounding ∷ weights ∷ lastWord ∷ delegation ∷ membershipPath ∷ []

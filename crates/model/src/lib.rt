@@ -7,13 +7,14 @@ pub struct GroupId(pub u64);
 // A process's number. A type of its own, so that it cannot change places with a group's.
 pub struct ProcessId(pub u64);
 
-// What a limit counts: own pages of groups, or live processes.
+// What a limit counts: the pages or the live processes inside a group.
 pub enum Resource {
     Pages,
     Processes,
 }
 
-// "A limit is either a figure or no limit at all." In pages for memory.max, in processes for pids.max.
+// "A limit is either a figure or no limit at all." A group's limits are in pages and in processes; the quota of cpu.max and a
+// limit as it is written or shown are in the file's own figures.
 pub enum Limit {
     NoLimit,
     Figure(u64),
