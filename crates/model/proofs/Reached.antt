@@ -27,7 +27,7 @@ module _ (m : ℕ) where
   root-new = upd-same (λ (x : ℕ). noGroup) 0 (newGroup 0 0 0)
 
   pub well-formed-fresh : WellFormed (fresh m)
-  unfolding fresh groups
+  unfolding fresh
   well-formed-fresh =
       record {
         sound =

@@ -2,7 +2,6 @@
 use mathlib.Core.Bool.{true}
 use mathlib.Core.Path.{_≡_, refl}
 use Rattle.model.specs.Functions.{upd, weigh, sum, any, member}
-use Rattle.model.specs.Sizes.{groups, processes, deepest}
 use Rattle.model.specs.Checks.{first}
 use Rattle.model.specs.Hierarchy.{climb, chain, inside, firstCommon, commonAncestor, held, usage, population}
 use Rattle.model.specs.Text.{sameBytes, body, leadingWord, startsIn, words, digitsFrom, numberWord, digits, decimal, spaced}
@@ -18,5 +17,5 @@ use Rattle.model.specs.Replies.{chargeAnswer, forkAnswer, reply, replyBy
 use Rattle.model.specs.Worked.{holds, allHold, table}
 
 pub all-hold : allHold table ≡ true
-unfolding upd weigh sum any member groups processes deepest first climb chain inside firstCommon commonAncestor held usage population sameBytes body leadingWord startsIn words digitsFrom numberWord digits decimal spaced named isControlWord askedBy askedFrom firstBad badRest anyIn limitWord valueOf inRange put shown valueText reset actingLimit consult hasChild hasProcess heldByChild oneNumber processLines namesOf nameLine contents path membershipLine chargeChecks forkChecks checks verdict effect step fresh run chargeAnswer forkAnswer reply replyBy holds allHold table
+unfolding upd weigh sum any member first climb chain inside firstCommon commonAncestor held usage population sameBytes body leadingWord startsIn words digitsFrom numberWord digits decimal spaced named isControlWord askedBy askedFrom firstBad badRest anyIn limitWord valueOf inRange put shown valueText reset actingLimit consult hasChild hasProcess heldByChild oneNumber processLines namesOf nameLine contents path membershipLine chargeChecks forkChecks checks verdict effect step fresh run chargeAnswer forkAnswer reply replyBy holds allHold table
 all-hold = refl

@@ -2,15 +2,15 @@
 use Prim.Native.Nat.{ℕ}
 
 -- group numbers are below this: "Groups 0 to 63"
-unfoldable pub groups : ℕ
+abbrev pub groups : ℕ
 groups = 64
 
 -- process numbers are above 0 and below this: "Processes 1 to 256"
-unfoldable pub processes : ℕ
+abbrev pub processes : ℕ
 processes = 257
 
 -- "A child's depth is its parent's plus one, at most 8"
-unfoldable pub deepest : ℕ
+abbrev pub deepest : ℕ
 deepest = 8
 
 -- "pages of 4,096 bytes"

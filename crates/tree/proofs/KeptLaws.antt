@@ -1,0 +1,137 @@
+-- What follows of words that keep the invariant: sums are small, chains can be searched and adjusted, and room found by the
+-- running sums is room by the definitions. Assumes nothing.
+use Prim.Native.Nat.{ℕ, zero, suc, _+_, _≤_, _<_}
+use native.Mathlib.Omega.{arith}
+use mathlib.Core.Bool.{Bool, true, false}
+use mathlib.Core.List.{List, [], _∷_}
+use mathlib.Core.Logic.{⊎-elim}
+use mathlib.Core.Path.{_≡_, refl, ap₂}
+use Rattle.model.specs.Functions.{pick, weigh, sum, member}
+use Rattle.model.specs.Sizes.{groups, processes, largestMachine}
+use Rattle.model.specs.Tree.{Tree, Core, Place, nowhere, at, groupOf, cores, lives, parents, places}
+use Rattle.model.specs.Hierarchy.{chain, inside, held, ownPages, headcount, usage, population, amount}
+use Rattle.model.specs.Rooms.{Room, full, over, actingLimit, consult}
+use Rattle.model.specs.WellFormed.{Sound, WellFormed}
+use Rattle.model.specs.declared.Resource.{Resource}
+use Rattle.model.specs.declared.Resource.the-variants.{Pages, Processes}
+use Rattle.model.specs.declared.Limit.{Limit}
+use Rattle.model.proofs.FunctionLaws.{split, weigh-yes, weigh-no, member-here, member-there}
+use Rattle.model.proofs.ChainLaws.{tree-ind, chain-root, chain-up, inside-root, inside-live, inside-cases, root-inside}
+use Rattle.tree.specs.Layout.{view, sumIn}
+use Rattle.tree.specs.Counters.{listed, ChainOf, Apart, HasParent, Adjustable, Searchable}
+use Rattle.tree.specs.Kept.{Kept}
+use Rattle.tree.specs.declared.chain.Chain.{Chain}
+
+-- Sums are within the root's, and so within the machine; there are no more processes than numbers.
+sum-le : (n : ℕ) (f g : ℕ → ℕ) → ((j : ℕ) → j < n → f j ≤ g j) → sum n f ≤ sum n g
+unfolding sum
+sum-le zero f g h = omega arith
+sum-le (suc n) f g h = omega (arith, h n (omega arith), sum-le n f g (λ j l. h j (omega arith)))
+
+sum-ones : (n : ℕ) (f : ℕ → ℕ) → ((j : ℕ) → f j ≤ 1) → sum n f ≤ n
+unfolding sum
+sum-ones zero f h = omega arith
+sum-ones (suc n) f h = omega (arith, h n, sum-ones n f h)
+
+weigh-le : (b : Bool) (w : ℕ) → weigh b w ≤ w
+unfolding weigh
+weigh-le true w = omega arith
+weigh-le false w = omega arith
+
+pub usage-below-root : (t : Tree) → WellFormed t → (a : ℕ) → usage (cores t) a ≤ usage (cores t) 0
+unfolding usage held
+usage-below-root t w a =
+    sum-le groups _ _
+    (λ g l. split (lives t g)
+    (λ y. omega (arith, weigh-le (inside (parents t) a g) (ownPages (cores t g)), weigh-yes (inside (parents t) 0 g) (ownPages (cores t g)) (root-inside (w .sound) g y)))
+    (λ n. let z : ownPages (cores t g) ≡ 0 = weigh-no _ _ n in
+    omega (arith, weigh-le (inside (parents t) a g) (ownPages (cores t g)))))
+
+head-le : (l : Place) → headcount l ≤ 1
+head-le nowhere = omega arith
+head-le (at g) = omega arith
+
+population-few : (s : ℕ → Core) (pl : ℕ → Place) (a : ℕ) → population s pl a ≤ processes
+unfolding population held
+population-few s pl a = sum-ones processes _ (λ p. omega (arith, weigh-le (inside (λ k. s k .parent) a (groupOf (pl p))) (headcount (pl p)), head-le (pl p)))
+
+pub amount-small : (t : Tree) → WellFormed t → (r : Resource) (a : ℕ) → amount (cores t) (places t) r a ≤ largestMachine
+amount-small t w Pages a = omega (arith, usage-below-root t w a, w .sized .fits, w .sized .size)
+amount-small t w Processes a = omega (arith, population-few (cores t) (places t) a)
+
+-- A chain has no group twice, and all its groups are live.
+module _ {live : ℕ → Bool} {up depth : ℕ → ℕ} (s : Sound live up depth) where
+  inside-shallow : (a g : ℕ) → live g ≡ true → inside up a g ≡ true → depth a ≤ depth g
+  inside-shallow a =
+      tree-ind s (λ g. inside up a g ≡ true → depth a ≤ depth g)
+      (λ h. rw (inside-root s a h) (omega arith))
+      (λ g l nz ih h. ⊎-elim (λ (e : a ≡ g). rw e (omega arith)) (λ m. omega (arith, ih m, s .deeper g l nz)) (inside-cases s a g l nz h))
+
+  pub chain-apart : (g : ℕ) → live g ≡ true → Apart (chain up g)
+  unfolding Apart member inside
+  chain-apart =
+      tree-ind s (λ g. Apart (chain up g))
+      (rw (chain-root s) (refl, tt))
+      (λ g l nz ih. rw (chain-up s g l nz) (
+        split (member g (chain up (up g)))
+            (λ y. absurd (omega (arith, inside-shallow g (up g) (s .above g l nz) y, s .deeper g l nz)))
+            (λ n. n),
+        ih,
+      ))
+
+  pub on-chain-live : (g a : ℕ) → live g ≡ true → member a (chain up g) ≡ true → live a ≡ true
+  unfolding inside
+  on-chain-live g a l m = inside-live s a g l m
+
+-- The search for room asks for the amounts of its own groups only.
+consult-ext : (limit : ℕ → Limit) (f g : ℕ → ℕ) (n i : ℕ) (gs : List ℕ) → ((a : ℕ) → member a gs ≡ true → f a ≡ g a)
+    → consult limit f n i gs ≡ consult limit g n i gs
+unfolding consult
+consult-ext limit f g n i [] h = refl
+consult-ext limit f g n i (x ∷ xs) h =
+    ap₂ (λ (v : ℕ) (rest : Room). pick (over (v + n) (limit x)) (full x (suc i)) rest) (h x (member-here x xs))
+    (consult-ext limit f g n (suc i) xs (λ a m. h a (member-there a x xs m)))
+
+module _ (xs : List ℕ) (k : Kept xs) where
+  pub sum-small : (r : Resource) (a : ℕ) → lives (view xs) a ≡ true → sumIn xs r a ≤ largestMachine
+  sum-small r a l = omega (arith, k .sums r a l, amount-small (view xs) (k .formed) r a)
+
+  pub live-row : (a : ℕ) → lives (view xs) a ≡ true → HasParent xs a
+  live-row a l =
+      record {
+        low = k .formed .sound .range a l;
+        above = λ nz. k .formed .sound .range (parents (view xs) a) (k .formed .sound .above a l nz);
+      }
+
+  module _ (g : ℕ) (l : lives (view xs) g ≡ true) (c : Chain) (h : ChainOf (view xs) g c) where
+    -- a group of the chain lives
+    chain-live : (a : ℕ) → member a (listed c) ≡ true → lives (view xs) a ≡ true
+    chain-live a m = on-chain-live (k .formed .sound) g a l (rw (h .groups) at m)
+
+    pub searchable : (r : Resource) (n : ℕ) → n ≤ 1048576 → Searchable xs r (listed c) n
+    searchable r n few =
+        record {
+          rows = λ a m. live-row a (chain-live a m);
+          room = λ a m. omega (arith, sum-small r a (chain-live a m));
+        }
+
+    pub adjustable : (r : Resource) (n m : ℕ) → n ≤ 1048576
+        → ((a : ℕ) → inside (parents (view xs)) a g ≡ true → m ≤ amount (cores (view xs)) (places (view xs)) r a)
+        → Adjustable xs r (listed c) n m
+    unfolding inside
+    adjustable r n m few enough =
+        record {
+          long = k .long;
+          apart = rw (h .groups) (chain-apart (k .formed .sound) g l);
+          low = λ a i. k .formed .sound .range a (chain-live a i);
+          room = λ a i. omega (arith, sum-small r a (chain-live a i));
+          enough = λ a i. omega (arith, enough a (rw (h .groups) at i), k .sums r a (chain-live a i));
+        }
+
+  -- Room by the running sums is room by the definitions.
+  pub room-same : (r : Resource) (n g : ℕ) → lives (view xs) g ≡ true
+      → consult (actingLimit (view xs) r) (sumIn xs r) n 0 (chain (parents (view xs)) g)
+      ≡ consult (actingLimit (view xs) r) (amount (cores (view xs)) (places (view xs)) r) n 0 (chain (parents (view xs)) g)
+  room-same r n g l =
+      consult-ext (actingLimit (view xs) r) (sumIn xs r) (amount (cores (view xs)) (places (view xs)) r) n 0 (chain (parents (view xs)) g)
+      (λ a m. k .sums r a (on-chain-live (k .formed .sound) g a l m))

@@ -1,0 +1,9 @@
+pub mod LayoutLaws
+pub mod ClimbLaws
+pub mod RowLaws
+pub mod SetterLaws
+pub mod WalkLaws
+pub mod AdjustLaws
+pub mod ActingLaws
+pub mod KeptLaws
+pub mod CallLaws

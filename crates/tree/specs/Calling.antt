@@ -1,0 +1,23 @@
+-- What every call on the tree promises: its answer, the tree that the words stand for afterwards, the invariant, and that a
+-- refusal leaves the very same words. Assumes nothing.
+use Prim.Native.Nat.{ℕ}
+use mathlib.Core.List.{List}
+use mathlib.Core.Logic.{_≢_}
+use mathlib.Core.Path.{_≡_}
+use Rattle.model.specs.Calls.{Call, verdict}
+use Rattle.model.specs.Effects.{effect, step}
+use Rattle.model.specs.declared.Answer.the-variants.{Done}
+use Rattle.tree.specs.Layout.{view}
+use Rattle.tree.specs.Kept.{Kept}
+
+-- the words before and after call c, where r was answered and the definitions say `expected`
+pub record Calling {A : Type 0} (xs ys : List ℕ) (c : Call) (expected r : A) : Type 0 where
+  pub answer : r ≡ expected
+  pub tree : view ys ≡ step (view xs) c
+  pub kept : Kept ys
+  pub same : verdict (view xs) c ≢ Done → ys ≡ xs
+
+-- what an accepted call leaves
+pub record Applied (xs ys : List ℕ) (c : Call) : Type 0 where
+  pub tree : view ys ≡ effect (view xs) c
+  pub kept : Kept ys

@@ -1,0 +1,5 @@
+pub mod Layout
+pub mod Counters
+pub mod Changes
+pub mod Kept
+pub mod Calling

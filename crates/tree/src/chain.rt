@@ -1,0 +1,58 @@
+// Chains: a group and its ancestors, lowest first, handed about as one value; and the common ancestor of two groups.
+ghost use mathlib.Core.Path.{_≡_};
+ghost use Rattle.model.specs.Hierarchy.{firstCommon};
+ghost use Rattle.tree.specs.Layout.{view};
+ghost use Rattle.tree.specs.Kept.{KeptAt};
+ghost use Rattle.tree.specs.Counters.{Whole, ChainOf, listed};
+use super::layout::CHAIN;
+use super::layout::Tree;
+use super::layout::parent;
+use model::GroupId;
+
+// The first `len` numbers of `at`.
+pub struct Chain {
+    pub at: [u64; CHAIN],
+    pub len: usize,
+}
+
+pub fn chain_of(t: &Tree, g: GroupId) -> Chain
+    requires { ⌜ KeptAt (now t) (g .0) ⌝ }
+    ensures { λ r. ⌜ ChainOf (view (now (t .entry))) (g .0) r ⌝ }
+{
+    let mut at = [0u64; CHAIN];
+    let mut here = g.0;
+    let mut i: usize = 0;
+    while here != 0 {
+        at[i] = here;
+        let above = parent(t, GroupId(here));
+        here = above.0;
+        i += 1;
+    }
+    at[i] = 0;
+    Chain { at: at, len: i + 1 }
+}
+
+// The lowest group that is on both chains.
+pub fn common_ancestor(a: Chain, b: Chain) -> GroupId
+    requires { ⌜ Whole a × Whole b ⌝ }
+    ensures { λ r. ⌜ r .0 ≡ firstCommon (listed a) (listed b) ⌝ }
+{
+    let n = a.len;
+    let m = b.len;
+    let mut i = 0;
+    let found = 'up: loop {
+        if i == n {
+            break 'up 0;
+        }
+        let x = a.at[i];
+        let mut j = 0;
+        while j < m {
+            if b.at[j] == x {
+                break 'up x;
+            }
+            j += 1;
+        }
+        i += 1;
+    };
+    GroupId(found)
+}
