@@ -7,3 +7,4 @@ pub mod AdjustLaws
 pub mod ActingLaws
 pub mod KeptLaws
 pub mod CallLaws
+pub mod TestLaws

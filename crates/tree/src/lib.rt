@@ -3,3 +3,4 @@
 pub mod layout; // sizes, getters and setters
 pub mod chain; // chains, by value, and the common ancestor
 pub mod counter; // running sums and room along a chain
+pub mod rule; // the tests that checks are made of
