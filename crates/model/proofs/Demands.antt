@@ -1,7 +1,6 @@
 -- The demands, as specs/Demands.antt states them. Demand 1: a refused call changes nothing. Demand 2: refused exactly when a
 -- check says so; containment (writing back is in WriteBack.antt). Demand 3: for every list of calls. Assumes nothing.
 use Prim.Native.Nat.{ℕ, _≤_}
-use native.Mathlib.Omega.{arith}
 use mathlib.Core.Bool.{true, false}
 use mathlib.Core.List.{List, [], _∷_}
 use mathlib.Core.Option.{some}
@@ -10,19 +9,19 @@ use borrow.Author.Tests.{lt-leb}
 use Rattle.model.specs.Functions.{orElse, mapped, passes}
 use Rattle.model.specs.Sizes.{groups}
 use Rattle.model.specs.Checks.{answerNumber, Pass}
-use Rattle.model.specs.Tree.{Tree, Core, Place, groupOf, controllerOf, cores, lives, parents, places}
-use Rattle.model.specs.Hierarchy.{chain, on, inside, amount, usage, factsOf}
+use Rattle.model.specs.Tree.{Tree, Core, Place, groupOf, controllerOf, cores, lives, places}
+use Rattle.model.specs.Hierarchy.{on, inside, amount, usage, factsOf}
 use Rattle.model.specs.Text.{ended, decimal}
 use Rattle.model.specs.Names.{fileName, fileNamed}
 use Rattle.model.specs.Settings.{toFigure}
-use Rattle.model.specs.Rooms.{actingLimit, over}
+use Rattle.model.specs.Rooms.{over}
 use Rattle.model.specs.Files.{isPresent, contents, fits}
 use Rattle.model.specs.Calls.{Call, make, remove, handOver, writeProcs, writeControl, writeSetting, admit, fork, exit, charge, release, read, membership, fileText, checks, verdict}
 use Rattle.model.specs.Effects.{effect, step, fresh, run}
 use Rattle.model.specs.Replies.{textReply, reply, replyBy, bufferOf}
 use Rattle.model.specs.Book.{Book, inBook, enter, bookStep, freshBook, fed}
 use Rattle.model.specs.WellFormed.{WellFormed}
-use Rattle.model.specs.Demands.{TurnedAway, Exactly, log, treeAfter, bookAfter, Alike, Bounded, Adds, NoneOver, Demand3, Counted, Lowest, Demands}
+use Rattle.model.specs.Demands.{TurnedAway, Exactly, log, treeAfter, bookAfter, Alike, Bounded, Adds, NoneOver, Demand3, Lowest, Demands}
 use Rattle.model.specs.declared.Resource.{Resource}
 use Rattle.model.specs.declared.File.the-variants.{Current}
 use Rattle.model.specs.declared.Errno.{Errno}
@@ -32,10 +31,10 @@ use Rattle.model.proofs.CheckLaws.{pass-first, says-first, first-says, 
 use Rattle.model.proofs.NameLaws.{fileNamed-fileName}
 use Rattle.model.proofs.Steps.{well-formed-step, step-accepted, step-refused, by-verdict, passed, well-formed-effect}
 use Rattle.model.proofs.Reached.{well-formed-fresh, reached-fresh, reached-step, well-formed-reached}
-use Rattle.model.proofs.RoomLaws.{count-on-success, consult-full}
 use Rattle.model.proofs.ChainLaws.{ancestor-of-left, ancestor-of-right, ancestor-lowest}
 use Rattle.model.proofs.WriteBack.{write-back}
 use Rattle.model.proofs.Containment.{contained}
+use Rattle.model.proofs.Counts.{counted}
 use Rattle.model.proofs.Books.{reply-number, Same, book-of-same, same-enter, same-fresh, book-step-accepted, book-step-refused, book-after-more}
 use Rattle.model.proofs.Bounds.{within-after-add, Marked, marked-enter, marked-fresh}
 
@@ -77,15 +76,6 @@ exactly t c =
       says = first-says (checks (factsOf t) c);
       only = λ a s. says-first s;
       accepted = λ e. (step-accepted t c e, reply-number t c ∙ ap answerNumber e);
-    }
-
-pub counted : (t : Tree) → WellFormed t → Counted t
-counted t w =
-    record {
-      success = λ r n g k l e. count-on-success (factsOf t) r n g w l k e;
-      stopped = λ r n g h k e.
-          let x = consult-full (actingLimit t r) (factsOf t .amount r) n 0 (chain (parents t) g) h k e in
-          (x .0, omega (arith, x .1), x .2);
     }
 
 pub lowest : (t : Tree) → WellFormed t → Lowest t

@@ -19,5 +19,8 @@ pub mod Bounds
 pub mod Reached
 pub mod WriteBack
 pub mod Containment
+pub mod Counts
 pub mod Demands
+pub mod Slips
 pub mod Worked
+pub mod Refusals

@@ -4,7 +4,6 @@ use native.Mathlib.Omega.{arith}
 use mathlib.Core.Bool.{true, false}
 use mathlib.Core.List.{[], _∷_, _++_}
 use mathlib.Core.Path.{_≡_, refl, ap, sym, _∙_, subst}
-use Rattle.model.specs.Sizes.{groups}
 use Rattle.model.specs.Tree.{Tree, noGroup, newGroup, lives}
 use Rattle.model.specs.Calls.{Call}
 use Rattle.model.specs.Effects.{step, fresh, run}

@@ -1,5 +1,6 @@
 -- The cases marked P hold, by computation. Assumes nothing.
-use mathlib.Core.Bool.{true}
+use mathlib.Core.Bool.{Bool, true}
+use mathlib.Core.List.{List}
 use mathlib.Core.Path.{_≡_, refl}
 use Rattle.model.specs.Functions.{upd, weigh, sum, any, member}
 use Rattle.model.specs.Checks.{first}
@@ -14,8 +15,13 @@ use Rattle.model.specs.Files.{processLines, namesOf, nameLine, contents,
 use Rattle.model.specs.Calls.{chargeChecks, forkChecks, checks, verdict}
 use Rattle.model.specs.Effects.{effect, step, fresh, run}
 use Rattle.model.specs.Replies.{chargeAnswer, forkAnswer, reply, replyBy}
-use Rattle.model.specs.Worked.{holds, allHold, table}
+use Rattle.model.specs.Worked.{Evening, holds, allHold, table}
+
+-- `allHold` with everything open that a row computes with: whoever unfolds it unfolds the whole line
+unfoldable pub computed : List Evening → Bool
+unfolding upd weigh sum any member first climb chain inside firstCommon commonAncestor held usage population sameBytes body leadingWord startsIn words digitsFrom numberWord digits decimal spaced named isControlWord askedBy askedFrom firstBad badRest anyIn limitWord valueOf inRange put shown valueText reset actingLimit consult hasChild hasProcess heldByChild oneNumber processLines namesOf nameLine contents path membershipLine chargeChecks forkChecks checks verdict effect step fresh run chargeAnswer forkAnswer reply replyBy holds allHold
+computed es = allHold es
 
 pub all-hold : allHold table ≡ true
-unfolding upd weigh sum any member first climb chain inside firstCommon commonAncestor held usage population sameBytes body leadingWord startsIn words digitsFrom numberWord digits decimal spaced named isControlWord askedBy askedFrom firstBad badRest anyIn limitWord valueOf inRange put shown valueText reset actingLimit consult hasChild hasProcess heldByChild oneNumber processLines namesOf nameLine contents path membershipLine chargeChecks forkChecks checks verdict effect step fresh run chargeAnswer forkAnswer reply replyBy holds allHold table
+unfolding computed table
 all-hold = refl

@@ -12,8 +12,8 @@ use Rattle.model.specs.Hierarchy.{chain, commonAncestor, on, inside, amo
 use Rattle.model.specs.Text.{ended, decimal}
 use Rattle.model.specs.Names.{settingName, fileName}
 use Rattle.model.specs.Settings.{settingController, toFigure}
-use Rattle.model.specs.Rooms.{over, actingLimit, room, full, Stopped, roomFor}
-use Rattle.model.specs.Rules.{mayWrite}
+use Rattle.model.specs.Rooms.{over, actingLimit, Stopped, shortage}
+use Rattle.model.specs.Rules.{mayWrite, processGroup}
 use Rattle.model.specs.Files.{contents, fits}
 use Rattle.model.specs.Calls.{Call, make, remove, handOver, writeProcs, writeControl, writeSetting, admit, fork, exit, charge, release, read, membership, checks, verdict}
 use Rattle.model.specs.Effects.{effect, step, fresh, run}
@@ -95,12 +95,25 @@ pub record Contained (t : Tree) : Type 0 where
       → (p g h : ℕ) → places t p ≡ at g → places (step t c) p ≡ at h → inside (parents t) d g ≡ inside (parents t) d h
   pub nobody : (c : Call) → caller c ≡ none → (p g h : ℕ) → places t p ≡ at g → places (step t c) p ≡ at h → g ≡ h
 
--- "the number of groups consulted: up to and including that group, or depth plus one on success"; the group named is the first
--- on the chain without room
+-- a call that asks for n more of a resource, and the process that it asks for
+pub data Asks : Resource → ℕ → ℕ → Call → Type 0 where
+  forCharge : {p n : ℕ} → Asks Pages n p (charge p n)
+  forFork : {p new : ℕ} → Asks Processes 1 p (fork p new)
+
+-- h is the first group without room on the chain of g, and k its place there, counted from 1
+abbrev pub StoppedAt : Tree → Resource → ℕ → ℕ → ℕ → ℕ → Type 0
+StoppedAt t r n g h k =
+    (i : ℕ) × (k ≡ suc i) × Stopped (actingLimit t r) (factsOf t .amount r) n (chain (parents t) g) h i
+
+-- "the first group, going up, that had no room, and the number of groups consulted: up to and including that group, or depth
+-- plus one on success. Any other refusal names no group and counts 0; success names none."
 pub record Counted (t : Tree) : Type 0 where
-  pub success : (r : Resource) (n g k : ℕ) → lives t g ≡ true → roomFor (factsOf t) r n g ≡ room k → k ≡ suc (depths t g)
-  pub stopped : (r : Resource) (n g h k : ℕ) → roomFor (factsOf t) r n g ≡ full h k
-      → (i : ℕ) × (k ≡ suc i) × Stopped (actingLimit t r) (factsOf t .amount r) n (chain (parents t) g) h i
+  pub success : (r : Resource) (n p : ℕ) (c : Call) → Asks r n p c → reply t c .number ≡ 0
+      → (reply t c .consulted ≡ suc (depths t (processGroup t p))) × (reply t c .group ≡ none)
+  pub stopped : (r : Resource) (n p h : ℕ) (c : Call) → Asks r n p c → reply t c .group ≡ some h
+      → (reply t c .number ≡ errnoNumber (shortage r)) × StoppedAt t r n (processGroup t p) h (reply t c .consulted)
+  pub other : (r : Resource) (n p : ℕ) (c : Call) → Asks r n p c → reply t c .number ≢ 0 → reply t c .group ≡ none
+      → reply t c .consulted ≡ 0
 
 -- "the lowest group that is on both chains"
 pub record Lowest (t : Tree) : Type 0 where

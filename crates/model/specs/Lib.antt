@@ -17,3 +17,4 @@ pub mod Book
 pub mod WellFormed
 pub mod Demands
 pub mod Worked
+pub mod Refusals

@@ -8,3 +8,4 @@ pub mod ActingLaws
 pub mod KeptLaws
 pub mod CallLaws
 pub mod TestLaws
+pub mod FreshLaws

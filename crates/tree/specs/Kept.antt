@@ -7,6 +7,7 @@ use mathlib.Core.Path.{_≡_}
 use lib.ListN.{length}
 use Rattle.model.specs.Tree.{lives, cores, places}
 use Rattle.model.specs.Hierarchy.{amount}
+use Rattle.model.specs.Effects.{fresh}
 use Rattle.model.specs.WellFormed.{WellFormed}
 use Rattle.model.specs.declared.Resource.{Resource}
 use Rattle.tree.specs.Layout.{words, view, sumIn}
@@ -20,3 +21,8 @@ pub record Kept (xs : List ℕ) : Type 0 where
 pub record KeptAt (xs : List ℕ) (g : ℕ) : Type 0 where
   pub kept : Kept xs
   pub live : lives (view xs) g ≡ true
+
+-- the words of a fresh tree
+pub record Fresh (m : ℕ) (xs : List ℕ) : Type 0 where
+  pub tree : view xs ≡ fresh m
+  pub kept : Kept xs

@@ -28,7 +28,7 @@ pub const WORDS: usize = 8224;
 pub type Tree = [u64; WORDS];
 
 // The places in a row.
-const LIVE: usize = 0;
+pub const LIVE: usize = 0;
 
 const PARENT: usize = 1;
 
@@ -42,11 +42,11 @@ const MEMORY: usize = 5;
 
 const PIDS: usize = 6;
 
-const WEIGHT: usize = 7;
+pub const WEIGHT: usize = 7;
 
 const QUOTA: usize = 8;
 
-const PERIOD: usize = 9;
+pub const PERIOD: usize = 9;
 
 const OWN: usize = 10;
 
@@ -62,7 +62,7 @@ const PLACE: usize = 15;
 
 const USER: usize = 16;
 // In row 0 only.
-const MACHINE: usize = 17;
+pub const MACHINE: usize = 17;
 
 pub fn machine(t: &Tree) -> u64
     ensures { λ r. ⌜ r ≡ view (now (t .entry)) .machine ⌝ }

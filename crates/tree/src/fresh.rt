@@ -1,0 +1,26 @@
+// A fresh tree: the root alone, with no process and no pages.
+ghost use Rattle.tree.specs.Kept.{Fresh};
+use super::layout::LIVE;
+use super::layout::MACHINE;
+use super::layout::PERIOD;
+use super::layout::Tree;
+use super::layout::WEIGHT;
+use super::layout::WORDS;
+
+// The largest machine, in pages; a larger figure counts as this.
+pub const LARGEST_MACHINE: u64 = 1099511627776;
+
+pub fn fresh(pages: u64) -> Tree
+    ensures { λ r. ⌜ Fresh pages r ⌝ }
+{
+    let mut t = [0u64; WORDS];
+    t[LIVE] = 1;
+    t[WEIGHT] = 100;
+    t[PERIOD] = 100000;
+    if pages < LARGEST_MACHINE {
+        t[MACHINE] = pages;
+        return t;
+    }
+    t[MACHINE] = LARGEST_MACHINE;
+    t
+}
