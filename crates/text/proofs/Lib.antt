@@ -1,0 +1,11 @@
+pub mod LineLaws
+pub mod WordLaws
+pub mod SplitLaws
+pub mod NameLaws
+pub mod NumberLaws
+pub mod ControlLaws
+pub mod BadWordLaws
+pub mod ValueLaws
+pub mod ReadingLaws
+pub mod WriteLaws
+pub mod DecimalLaws

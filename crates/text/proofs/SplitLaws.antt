@@ -1,0 +1,76 @@
+-- The words of a line from the next words of its text: parts of the text are parts of the line, then the four ways in
+-- which a line is split. Assumes nothing.
+use Prim.Native.Nat.{ℕ, zero, suc, _-_, _≤_}
+use mathlib.Core.List.{List, [], _∷_}
+use mathlib.Core.Path.{_≡_, ap, sym, _∙_}
+use native.Mathlib.Numerals.{unary-clauses}
+use native.Mathlib.Omega.{arith}
+use lib.ListN.{length, take, drop}
+use lib.Seq.{length-take-le, take-take, take-nil, drop-nil}
+use Rattle.model.specs.Text.{words, lineWords}
+use Rattle.text.specs.Line.{cut, Inside, LineEnd, NextWord, SplitAs}
+use Rattle.text.specs.declared.line.Span.{Span}
+use Rattle.text.specs.declared.line.Words.the-variants.{Empty, One, Two, More}
+use Rattle.text.proofs.LineLaws.{line-end-inside}
+use Rattle.text.proofs.WordLaws.{words-next, words-none}
+
+drop-take : (s n : ℕ) (l : List ℕ) → drop s (take n l) ≡ take (n - s) (drop s l)
+drop-take zero n l = simp unary-clauses
+drop-take (suc s) zero l = let e : 0 - suc s ≡ 0 = omega arith in rw e
+drop-take (suc s) (suc n) [] = rw (take-nil, drop-nil)
+drop-take (suc s) (suc n) (x ∷ l) = simp unary-clauses (drop-take s n l)
+
+module _ (l : List ℕ) (n : ℕ) (h : n ≤ length l) (p : Span) (i : Inside (take n l) p) where
+  inside-front : Inside l p
+  inside-front = record { order = i .order; bound = omega (arith, length-take-le n l h, i .bound) }
+
+  cut-front : cut (take n l) p ≡ cut l p
+  cut-front =
+      rw drop-take
+      (take-take (p .end - p .start) (n - p .start) (drop (p .start) l) (omega (arith, length-take-le n l h, i .bound)))
+
+module _ (line : List ℕ) (n : ℕ) (e : LineEnd line n) where
+  -- what a call on the text of a line asks
+  pub text-length : n ≡ length (take n line)
+  text-length = sym (length-take-le n line (line-end-inside line n e))
+
+  words-of-text : lineWords line ≡ words (take n line)
+  words-of-text = ap words (sym (e .text))
+
+  -- one word more of the text
+  next-of-text : (at : ℕ) (p : Span) → NextWord (take n line) at p → (p .start ≡ n → ⊥)
+      → words (drop at (take n line)) ≡ cut line p ∷ words (drop (p .end) (take n line))
+  next-of-text at p w m =
+      let i = w .inside in
+      words-next (take n line) at p w (omega (arith, text-length, i .order, i .bound, m))
+      ∙ ap (λ (z : List ℕ). z ∷ words (drop (p .end) (take n line))) (cut-front line n (line-end-inside line n e) p i)
+
+  none-of-text : (at : ℕ) (p : Span) → NextWord (take n line) at p → p .start ≡ n → words (drop at (take n line)) ≡ []
+  none-of-text at p w m = words-none (take n line) at p w (m ∙ text-length)
+
+  module _ (p : Span) (w : NextWord (take n line) 0 p) where
+    pub split-empty : p .start ≡ n → SplitAs line Empty
+    split-empty m = words-of-text ∙ none-of-text 0 p w m
+
+    module _ (m : p .start ≡ n → ⊥) (q : Span) (v : NextWord (take n line) (p .end) q) where
+      pub split-one : q .start ≡ n → SplitAs line (One p)
+      split-one k =
+          record {
+            inside = inside-front line n (line-end-inside line n e) p (w .inside);
+            words-are = words-of-text ∙ rw (next-of-text 0 p w m, none-of-text (p .end) q v k);
+          }
+
+      module _ (k : q .start ≡ n → ⊥) (r : Span) (u : NextWord (take n line) (q .end) r) where
+        pub split-two : r .start ≡ n → SplitAs line (Two p q)
+        split-two j =
+            record {
+              first = inside-front line n (line-end-inside line n e) p (w .inside);
+              second = inside-front line n (line-end-inside line n e) q (v .inside);
+              words-are =
+                  words-of-text ∙ rw (next-of-text 0 p w m, next-of-text (p .end) q v k, none-of-text (q .end) r u j);
+            }
+
+        pub split-more : (r .start ≡ n → ⊥) → SplitAs line More
+        split-more j =
+            rw (words-of-text, next-of-text 0 p w m, next-of-text (p .end) q v k, next-of-text (q .end) r u j)
+            (omega arith)

@@ -1,0 +1,59 @@
+-- Laws of writers: a byte, a copy, one text after another, and the delivery of a text. Assumes nothing.
+use Prim.Native.Nat.{ℕ, _+_, _≤_, _<_}
+use mathlib.Core.List.{List, [], _∷_, _++_, append-assoc}
+use mathlib.Core.Path.{_≡_, refl, _∙_}
+use native.Mathlib.Nat.{zero-add}
+use native.Mathlib.Numerals.{add-one}
+use native.Mathlib.Omega.{arith}
+use lib.ListN.{length, getD, take, drop, set, length-append}
+use lib.Seq.{length-take-le, take-at, take-suc-set, take-length, paste, paste-suc}
+use borrow.Author.Tests.{le-leb, lt-leb}
+use Rattle.model.specs.declared.Errno.{Errno}
+use Rattle.model.specs.declared.ReadAnswer.{ReadAnswer}
+use Rattle.text.specs.Write.{Wrote, Copied, Delivered}
+
+pub wrote-byte : (l : List ℕ) (i b : ℕ) → i < length l → Wrote l i (b ∷ []) (set l i b) (i + 1)
+wrote-byte l i b h = record { end = refl; front = rw add-one (take-suc-set l i b h) }
+
+-- one text after another
+pub wrote-then : {a b c s t : List ℕ} {i j k : ℕ} → Wrote a i s b j → Wrote b j t c k → Wrote a i (s ++ t) c k
+wrote-then {a} {b} {c} {s} {t} {i} {j} {k} p q =
+    record {
+      end = omega (arith, p .end, q .end, length-append s t);
+      front = q .front ∙ rw (p .front) (append-assoc (take i a) s t);
+    }
+
+-- the same text by another name
+pub wrote-as : {a b s t : List ℕ} {i j : ℕ} → s ≡ t → Wrote a i s b j → Wrote a i t b j
+wrote-as e w = rw e at w
+
+-- ---- a copy, where the loop has copied n bytes of s to `at`
+
+module _ (d e : List ℕ) (at : ℕ) (s : List ℕ) (n : ℕ) (q : e ≡ paste d at s n) where
+  pub copy-more : at + n < length d → n < length s → set e (at + n) (getD s n 0) ≡ paste d at s (n + 1)
+  copy-more h k = rw (q, add-one) (paste-suc d at s n 0 h k)
+
+  pub copy-done : n ≡ length s → Copied d at s e (at + n)
+  copy-done p = record { end = rw p; whole = rw (q, p, take-length s) }
+
+pub copied-wrote : {d s e : List ℕ} {at k : ℕ} → at + length s ≤ length d → Copied d at s e k → Wrote d at s e k
+copied-wrote {d} {s} {e} {at} {k} h c =
+    let f : take k (take at d ++ s ++ drop (at + length s) d) ≡ take at d ++ s =
+    rw (c .end) (take-at (take at d ++ s) (drop (at + length s) d) (at + length s)
+    (length-append (take at d) s ∙ rw (length-take-le at d (omega arith)))) in
+    record { end = c .end; front = rw (c .whole) f }
+
+-- ---- a delivery
+
+pub delivered-short : (t b : List ℕ) → length b < length t → Delivered t b (ReadAnswer.Refused Errno.Enospc) b
+delivered-short t b h =
+    record { answer = rw (lt-leb (length t) (length b) h); buffer = rw (lt-leb (length t) (length b) h) }
+
+pub delivered-whole : (t b e : List ℕ) (k : ℕ) → length t ≤ length b → Copied b 0 t e k
+    → Delivered t b (ReadAnswer.Text k) e
+delivered-whole t b e k h c =
+    let n : k ≡ length t = omega (arith, c .end) in
+    record {
+      answer = rw (le-leb (length t) (length b) h, n);
+      buffer = rw (le-leb (length t) (length b) h) (rw zero-add at (c .whole));
+    }

@@ -1,0 +1,8 @@
+// Text as bytes: reading lines, words, numbers, names and values, and writing decimal text.
+// Every reader takes any bytes of any length. Nothing here knows a tree.
+pub mod line; // lines and their words
+pub mod number; // number words
+pub mod name; // the names of controllers, settings and files
+pub mod control; // control lines
+pub mod value; // the values of settings
+pub mod write; // decimal text, and its delivery

@@ -1,0 +1,82 @@
+// Number words: "one or more decimal digits, leading zeros allowed, any value".
+ghost use mathlib.Core.Path.{_≡_};
+ghost use Rattle.model.specs.Functions.{known};
+ghost use Rattle.model.specs.Text.{numberWord};
+ghost use Rattle.model.specs.Rules.{numberLine};
+ghost use Rattle.text.specs.Number.{asNumber};
+use super::line::Words;
+use super::line::split;
+
+const ZERO: u8 = 48;
+
+const NINE: u8 = 57;
+
+const LARGEST: u64 = 18446744073709551615;
+
+// What a word says as a number.
+pub enum Number {
+    Figure(u64),
+    // a number word worth 2^64 or more
+    TooLarge,
+    NotANumber,
+}
+
+fn wide(x: u8) -> u64
+    ensures { λ r. ⌜ r ≡ x ⌝ }
+{
+    x as u64
+}
+
+// Whether a word has one or more digits and nothing else.
+fn is_number(word: &[u8]) -> bool
+    ensures { λ r. ⌜ r ≡ known (numberWord (now (word .entry))) ⌝ }
+{
+    if word.len() == 0 {
+        return false;
+    }
+    let mut i = 0;
+    while i < word.len() {
+        let b = word[i];
+        if b < ZERO {
+            return false;
+        }
+        if NINE < b {
+            return false;
+        }
+        i += 1;
+    }
+    true
+}
+
+// The number that a word writes.
+pub fn read_number(word: &[u8]) -> Number
+    ensures { λ r. ⌜ r ≡ asNumber (numberWord (now (word .entry))) ⌝ }
+{
+    if !is_number(word) {
+        return Number::NotANumber;
+    }
+    let mut value: u64 = 0;
+    let mut i = 0;
+    while i < word.len() {
+        let digit = wide(word[i] - ZERO);
+        if value > (LARGEST - digit) / 10 {
+            return Number::TooLarge;
+        }
+        value = value * 10 + digit;
+        i += 1;
+    }
+    Number::Figure(value)
+}
+
+// The number of a line that is exactly one number word.
+pub fn read_number_line(line: &[u8]) -> Number
+    ensures { λ r. ⌜ r ≡ asNumber (numberLine (now (line .entry))) ⌝ }
+{
+    let words = split(line);
+    let Words::One(word) = words else {
+        return Number::NotANumber;
+    };
+    let s = word.start;
+    let e = word.end;
+    read_number(&line[s..e])
+}
