@@ -18,12 +18,12 @@ pub const PROCESSES: u64 = 257;
 
 pub const DEEPEST: u64 = 8;
 // The numbers of a chain, one more than the depth of its lowest group.
-pub const CHAIN: usize = 9;
+pub const CHAIN: usize = DEEPEST as usize + 1;
 
 // Words of a row, and of the tree: a row for each process number is a row for each group number too.
 pub const ROW: usize = 32;
 
-pub const WORDS: usize = 8224;
+pub const WORDS: usize = PROCESSES as usize * ROW;
 
 pub type Tree = [u64; WORDS];
 

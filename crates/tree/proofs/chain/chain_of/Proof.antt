@@ -3,6 +3,7 @@
 use Prim.Native.Nat.{_≤_}
 use native.Mathlib.Omega.{arith}
 use mathlib.Core.Path.{refl}
+use Rattle.model.specs.Sizes.{deepest}
 use Rattle.model.specs.Tree.{depths}
 use Rattle.tree.specs.Layout.{view}
 use Rattle.tree.proofs.ClimbLaws.{Climbing, climbing-start, climbing-room, climbing-next, climbing-less, climbing-end}
@@ -22,7 +23,7 @@ loop-holds : tie.Need-loop-holds Inv-loop μ-loop
 loop-holds c = climbing-start _ _ _ refl (c .pre .live)
 
 -- there is room for one group more
-room : (c : tie.At-loop Inv-loop μ-loop) → c .loop .i ≤ 8
+room : (c : tie.At-loop Inv-loop μ-loop) → c .loop .i ≤ deepest
 room c = climbing-room _ (c .before .pre .kept .formed) _ _ _ _ (c .before .pre .live) (c .loop .inv)
 
 mul-at : tie.Need-mul-at Inv-loop μ-loop

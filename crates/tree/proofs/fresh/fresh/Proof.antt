@@ -1,6 +1,7 @@
 -- `tree::fresh::fresh` meets its contract. Assumes nothing.
 use native.Mathlib.Omega.{arith}
 use mathlib.Core.Path.{refl}
+use Rattle.tree.specs.Layout.{words}
 use Rattle.tree.proofs.FreshLaws.{fresh-of-zeros}
 use borrow.Author.Needs.{needs}
 use Rattle.tree.proofs.fresh.fresh.Statement.{statement}
@@ -19,13 +20,13 @@ array-write-t-4 : tie.Need-array-write-t-4
 array-write-t-4 c = search needs
 
 returns : tie.Need-returns
-returns c = fresh-of-zeros 8224 _ _ _ refl refl (omega arith)
+returns c = fresh-of-zeros words _ _ _ refl refl (omega arith)
 
 array-write-t-5 : tie.Need-array-write-t-5
 array-write-t-5 c = search needs
 
 returns-2 : tie.Need-returns-2
-returns-2 c = fresh-of-zeros 8224 _ _ _ refl refl (omega arith)
+returns-2 c = fresh-of-zeros words _ _ _ refl refl (omega arith)
 
 pub fresh-spec : {M : Type 1} → statement M
 fresh-spec =
