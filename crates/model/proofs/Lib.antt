@@ -1,10 +1,12 @@
 pub mod FunctionLaws
 pub mod CheckLaws
+pub mod VetLaws
 pub mod ChainLaws
 pub mod HeldLaws
 pub mod AmountLaws
 pub mod RuleLaws
 pub mod RoomLaws
+pub mod RoomAnswerLaws
 pub mod ControlLaws
 pub mod TextLaws
 pub mod DecimalLaws
@@ -14,6 +16,7 @@ pub mod SettingTextLaws
 pub mod Preservation
 pub mod ControlPreservation
 pub mod Steps
+pub mod ProcessLaws
 pub mod Books
 pub mod Bounds
 pub mod Reached

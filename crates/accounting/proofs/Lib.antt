@@ -1,0 +1,3 @@
+pub mod PagesLaws
+pub mod ChargeLaws
+pub mod ReleaseLaws

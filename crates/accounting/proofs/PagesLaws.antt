@@ -1,0 +1,109 @@
+-- Own pages and running sums changed together: usage after n pages more and m less in one group, and that the sums along the
+-- chain follow it. Once for what comes and what goes. Assumes nothing.
+use Prim.Native.Nat.{ℕ, _+_, _-_, _≤_, _<_}
+use native.Mathlib.Omega.{arith}
+use mathlib.Core.Bool.{Bool, true, false}
+use mathlib.Core.List.{List}
+use mathlib.Core.Logic.{_≢_}
+use mathlib.Core.Path.{_≡_, refl, ap, sym, _∙_, subst}
+use Rattle.model.specs.Functions.{pick, upd, weigh, member}
+use Rattle.model.specs.Sizes.{groups, largestCharge}
+use Rattle.model.specs.Tree.{Tree, Core, Group, withOwn, cores, lives, parents, places}
+use Rattle.model.specs.Hierarchy.{inside, ownPages, usage, amount}
+use Rattle.model.specs.Calls.{Call, verdict}
+use Rattle.model.specs.Effects.{effect}
+use Rattle.model.specs.declared.Resource.{Resource}
+use Rattle.model.specs.declared.Resource.the-variants.{Pages, Processes}
+use Rattle.model.specs.declared.Answer.the-variants.{Done}
+use Rattle.model.proofs.FunctionLaws.{upd-keeps, upd-map, weigh-yes, weigh-add}
+use Rattle.model.proofs.ChainLaws.{inside-self}
+use Rattle.model.proofs.AmountLaws.{usage-change, population-same, own-within-usage}
+use Rattle.tree.specs.Layout.{view, sumIn}
+use Rattle.tree.specs.Changes.{Wrote, Adjusted, ownSet}
+use Rattle.tree.specs.Counters.{listed, Adjustable}
+use Rattle.tree.specs.Kept.{Kept}
+use Rattle.tree.specs.Calling.{Applied}
+use Rattle.tree.specs.declared.chain.Chain.{Chain}
+use Rattle.tree.proofs.KeptLaws.{amount-small, adjustable}
+use Rattle.tree.proofs.CallLaws.{applied}
+use Rattle.accounting.specs.Pages.{pagesSet, PagesAdjustable, PagesAdjusted}
+
+-- Usage after one group's own pages changed.
+usage-after-adjust : (s : ℕ → Core) (g n m : ℕ) → g < groups → s g .live ≡ true → m ≤ s g .own + n → (a : ℕ)
+    → usage (upd s g (withOwn (s g .own + n - m) (s g))) a + weigh (inside (λ k. s k .parent) a g) m
+    ≡ usage s a + weigh (inside (λ k. s k .parent) a g) n
+usage-after-adjust s g n m low l e a =
+    let b : Bool = inside (λ k. s k .parent) a g in
+    let v : Core = withOwn (s g .own + n - m) (s g) in
+    let x : ownPages v + m ≡ ownPages (s g) + n =
+    omega (arith, weigh-yes (s g .live) (s g .own) l, weigh-yes (s g .live) (s g .own + n - m) l) in
+    let y : weigh b (ownPages v) + weigh b m ≡ weigh b (ownPages (s g)) + weigh b n =
+    sym (weigh-add b _ m) ∙ ap (weigh b) x ∙ weigh-add b _ n in
+    omega (arith, usage-change s g v low refl a)
+
+-- a sum with n more and m less on the chain, where the usage inside has them
+sum-follows : (b : Bool) (n m s u : ℕ) → u + weigh b m ≡ s + weigh b n → pick b (s + n - m) s ≡ u
+unfolding weigh
+sum-follows true n m s u e = omega arith
+sum-follows false n m s u e = omega arith
+
+resources-apart : Processes ≢ Pages
+resources-apart e = let z : _≡_ {A = ℕ} 0 1 = cc in omega arith
+
+module _ (xs : List ℕ) (g : ℕ) (c : Chain) (n m : ℕ) (p : PagesAdjustable xs g c n m) where
+  pub group-low : g < groups
+  group-low = p .home .kept .formed .sound .range g (p .home .live)
+
+  pub own-small : view xs .group g .core .own + n < 18446744073709551616
+  own-small =
+      let w = p .home .kept .formed in
+      omega (
+        arith,
+        own-within-usage (cores (view xs)) g g group-low (p .home .live) (inside-self (w .sound) g (p .home .live)),
+        amount-small (view xs) w Pages g,
+        p .few,
+      )
+
+  pub sums-adjustable : (i j : ℕ) → i ≤ largestCharge → j ≤ view xs .group g .core .own → Adjustable xs Pages (listed c) i j
+  sums-adjustable i j few enough =
+      adjustable xs (p .home .kept) g (p .home .live) c (p .chain) Pages i j few
+      (λ a on. omega (arith, own-within-usage (cores (view xs)) a g group-low (p .home .live) on))
+
+  -- the sums along the chain first, then the own pages
+  module _ (ys zs : List ℕ) (v : ℕ) (adjusted : Adjusted xs ys Pages (listed c) n m) (wrote : Wrote ys zs (ownSet (view ys) g v))
+      (e : v ≡ view xs .group g .core .own + n - m) where
+    pages-tree : view zs ≡ pagesSet (view xs) g n m
+    pages-tree = wrote .tree ∙ rw e (ap (λ u. ownSet u g (view xs .group g .core .own + n - m)) (adjusted .tree))
+
+    sums-after : (r : Resource) (a : ℕ) → lives (view xs) a ≡ true → sumIn zs r a ≡ amount (cores (pagesSet (view xs) g n m)) (places (view xs)) r a
+    unfolding inside
+    sums-after Pages a l =
+        let s : ℕ → Core = cores (view xs) in
+        let after : ℕ → Core = upd s g (withOwn (s g .own + n - m) (s g)) in
+        let here : inside (parents (view xs)) a g ≡ member a (listed c) = ap (member a) (sym (p .chain .groups)) in
+        let u : usage after a + weigh (member a (listed c)) m ≡ sumIn xs Pages a + weigh (member a (listed c)) n =
+        rw (← here, p .home .kept .sums Pages a l)
+        (usage-after-adjust s g n m group-low (p .home .live) (omega (arith, p .enough)) a) in
+        wrote .sums Pages a ∙ adjusted .sums a
+        ∙ sum-follows (member a (listed c)) n m (sumIn xs Pages a) (usage after a) u
+        ∙ ap (λ (k : ℕ → Core). usage k a) (sym (upd-map (λ (x : Group). x .core) (view xs .group) g _))
+    sums-after Processes a l =
+        wrote .sums Processes a ∙ adjusted .other Processes resources-apart a
+        ∙ p .home .kept .sums Processes a l
+        ∙ sym (population-same (cores (view xs)) (cores (pagesSet (view xs) g n m)) (places (view xs))
+        (upd-keeps (λ (x : Group). x .core .parent) (view xs .group) g _ refl) a)
+
+    pub pages-adjusted : PagesAdjusted xs zs g n m
+    pages-adjusted =
+        record {
+          long = wrote .long;
+          tree = pages-tree;
+          sums = λ r a l. sums-after r a (sym (upd-keeps (λ (x : Group). x .core .live) (view xs .group) g _ refl a) ∙ l);
+        }
+
+-- An accepted call whose effect is such a change.
+pub applied-pages : (xs ys : List ℕ) (c : Call) (g n m : ℕ) → Kept xs → verdict (view xs) c ≡ Done → PagesAdjusted xs ys g n m
+    → effect (view xs) c ≡ pagesSet (view xs) g n m → Applied xs ys c
+applied-pages xs ys c g n m k v p e =
+    applied xs k c v ys (p .long) (p .tree ∙ sym e)
+    (subst (λ (u : Tree). (r : Resource) (a : ℕ) → lives u a ≡ true → sumIn ys r a ≡ amount (cores u) (places u) r a) (sym e) (p .sums))
