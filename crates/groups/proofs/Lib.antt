@@ -1,0 +1,4 @@
+pub mod ClearedLaws
+pub mod MakeLaws
+pub mod RemoveLaws
+pub mod HandOverLaws

@@ -1,0 +1,104 @@
+-- What an accepted remove finds, that the pages it passes on fit a word, and that its stores give the definitions' tree:
+-- the pages stay inside every group above, so that no other group's amount changes. Assumes nothing.
+use Prim.Native.Nat.{ℕ, _+_, _≤_, _<_}
+use native.Mathlib.Omega.{arith}
+use mathlib.Core.Bool.{true}
+use mathlib.Core.List.{List}
+use mathlib.Core.Logic.{_≢_}
+use mathlib.Core.Path.{_≡_, refl, ap, sym, _∙_}
+use borrow.Author.Tests.{eqb-false}
+use Rattle.model.specs.Functions.{upd}
+use Rattle.model.specs.Sizes.{groups, largestMachine}
+use Rattle.model.specs.Checks.{Pass}
+use Rattle.model.specs.Tree.{Tree, Group, at, noCore, noGroup, atGroup, cores, lives, parents, depths, places}
+use Rattle.model.specs.Hierarchy.{amount, factsOf}
+use Rattle.model.specs.Calls.{remove, checks, verdict}
+use Rattle.model.specs.Effects.{charged, removed, effect}
+use Rattle.model.specs.WellFormed.{WellFormed}
+use Rattle.model.specs.declared.Resource.{Resource}
+use Rattle.model.specs.declared.Answer.the-variants.{Done}
+use Rattle.model.proofs.FunctionLaws.{whether, clash, upd-same, upd-other, upd-map, upd-keeps}
+use Rattle.model.proofs.ChainLaws.{root-inside}
+use Rattle.model.proofs.RuleLaws.{NoChild}
+use Rattle.model.proofs.AmountLaws.{own-within-usage, amount-after-remove}
+use Rattle.model.proofs.Steps.{passed, no-child, no-process}
+use Rattle.tree.specs.Layout.{view}
+use Rattle.tree.specs.Changes.{Wrote, Cleared, ownSet}
+use Rattle.tree.specs.Kept.{Kept}
+use Rattle.tree.specs.Calling.{Applied}
+use Rattle.groups.proofs.ClearedLaws.{cleared-after-wrote, applied-cleared}
+
+-- the root is its own parent
+pub parent-low : (xs : List ℕ) → Kept xs → (g : ℕ) → lives (view xs) g ≡ true → parents (view xs) g < groups
+parent-low xs k g l =
+    let s = k .formed .sound in
+    whether g 0 (λ z. rw (z, s .top) (omega arith)) (λ nz. s .range (parents (view xs) g) (s .above g l nz))
+
+own-small : (t : Tree) → WellFormed t → (g : ℕ) → lives t g ≡ true → t .group g .core .own ≤ largestMachine
+own-small t w g l =
+    omega (arith, own-within-usage (cores t) 0 g (w .sound .range g l) l (root-inside (w .sound) g l), w .sized .fits, w .sized .size)
+
+-- what the checks say where all pass
+record Removable (t : Tree) (g : ℕ) : Type 0 where
+  live : lives t g ≡ true
+  nonroot : g ≢ 0
+  childless : NoChild (lives t) (parents t) g
+  empty : (p : ℕ) → places t p ≢ at g
+
+removable : (t : Tree) (user g : ℕ) → WellFormed t → verdict t (remove user g) ≡ Done → Removable t g
+unfolding checks Pass
+removable t user g w v =
+    let k : Pass (checks (factsOf t) (remove user g)) = passed t (remove user g) v in
+    record {
+      live = (search);
+      nonroot = eqb-false g 0 (search);
+      childless = no-child t w g (search);
+      empty = no-process t w g (search);
+    }
+
+module _ (xs : List ℕ) (k : Kept xs) (user g : ℕ) (v : verdict (view xs) (remove user g) ≡ Done) where
+  here : Removable (view xs) g
+  here = removable (view xs) user g (k .formed) v
+
+  pub group-low : g < groups
+  group-low = k .formed .sound .range g (here .live)
+
+  -- The parent, found by the code.
+  module _ (p : ℕ) (a : p ≡ parents (view xs) g) where
+    pub parent-found : p < groups
+    parent-found = rw a (parent-low xs k g (here .live))
+
+    pub pages-fit : (m n : ℕ) → m ≡ view xs .group p .core .own → n ≡ view xs .group g .core .own → m + n < 18446744073709551616
+    pages-fit m n b d =
+        let l : lives (view xs) p ≡ true = rw a (k .formed .sound .above g (here .live) (here .nonroot)) in
+        omega (arith, own-small (view xs) (k .formed) p l, own-small (view xs) (k .formed) g (here .live))
+
+  -- the parent with the pages, and the groups with that parent
+  abbrev parent-after : Group
+  parent-after = charged (view xs .group g .core .own) (view xs .group (parents (view xs) g))
+
+  abbrev groups-after : ℕ → Group
+  groups-after = upd (view xs .group) (parents (view xs) g) parent-after
+
+  live-same : (h : ℕ) → h ≢ g → lives (removed (view xs) g) h ≡ lives (view xs) h
+  live-same h ne =
+      ap (λ (x : Group). x .core .live) (upd-other groups-after g noGroup h ne)
+      ∙ upd-keeps (λ (x : Group). x .core .live) (view xs .group) (parents (view xs) g) parent-after refl h
+
+  amount-same : (r : Resource) (h : ℕ) → h ≢ g
+      → amount (cores (removed (view xs) g)) (places (view xs)) r h ≡ amount (cores (view xs)) (places (view xs)) r h
+  amount-same r h ne =
+      ap (λ s. amount s (places (view xs)) r h)
+      (upd-map (λ (x : Group). x .core) groups-after g noGroup
+      ∙ ap (λ f. upd f g noCore) (upd-map (λ (x : Group). x .core) (view xs .group) (parents (view xs) g) parent-after))
+      ∙ amount-after-remove (cores (view xs)) (places (view xs)) (depths (view xs)) (k .formed .sound) (k .formed .placed) g
+      (here .live) (here .nonroot) (here .childless) (here .empty) r h ne
+
+  pub applied-remove : (zs ys : List ℕ) (p m n : ℕ) → p ≡ parents (view xs) g → m ≡ view xs .group p .core .own → n ≡ view xs .group g .core .own
+      → Wrote xs zs (ownSet (view xs) p (m + n)) → Cleared zs ys (atGroup (view zs) g noGroup) g → Applied xs ys (remove user g)
+  unfolding effect
+  applied-remove zs ys p m n a b d w q =
+      applied-cleared xs k (remove user g) v ys g (cleared-after-wrote xs zs ys _ g noGroup (rw (b, d, a) at w) q)
+      (λ r l. clash (noGroup .core .live) (sym (ap (λ (x : Group). x .core .live) (upd-same groups-after g noGroup)) ∙ l) refl)
+      (λ h ne l. sym (live-same h ne) ∙ l)
+      amount-same

@@ -1,0 +1,101 @@
+-- `groups::remove::remove` meets its contract: the pages are stored at the parent before the group's row is cleared, and
+-- no other group's amount changes by it. Assumes nothing.
+use native.Mathlib.Omega.{arith}
+use mathlib.Core.Path.{_≡_, sym, _∙_}
+use Rattle.model.specs.Calls.{remove, verdict}
+use Rattle.model.specs.declared.Answer.the-variants.{Done}
+use Rattle.tree.specs.Layout.{view}
+use Rattle.tree.proofs.CallLaws.{call-refused, call-done}
+use Rattle.groups.proofs.RemoveLaws.{group-low, parent-found, pages-fit, applied-remove}
+use borrow.Author.Needs.{needs}
+use Rattle.groups.proofs.remove.remove.Statement.{statement}
+use Rattle.groups.proofs.remove.remove.Tie as tie
+
+-- the places on the way
+abbrev start : tie.After-enum-told → tie.Start
+start c = c .before .before .before .before
+
+abbrev told-at : tie.After-parent → tie.After-enum-told
+told-at c = c .before .before
+
+abbrev parent-at : tie.After-own2 → tie.After-parent
+parent-at c = c .before .before .before .before
+
+-- the call was accepted
+accepted : (c : tie.After-enum-told) →
+    let a = c .before .before .before .before .args in
+    verdict (view (a .tree .now)) (remove (a .user) (a .group .0)) ≡ Done
+accepted c = sym (c .before .before .vet-remove .ensures) ∙ c .enum-told .given .1
+
+vet-remove-requires : tie.Need-vet-remove-requires
+vet-remove-requires c κs = search needs
+
+enum-told : tie.Need-enum-told
+enum-told c = search needs
+
+enum-told-2 : tie.Need-enum-told-2
+enum-told-2 c = search needs
+
+-- refused
+returns : tie.Need-returns
+returns c =
+    let e = c .before .before .vet-remove .ensures in
+    call-refused _ (c .before .before .before .before .pre) _ _ _ (c .enum-told2 .given .0 .0) (sym e ∙ c .enum-told2 .given .1) e
+
+parent-requires : tie.Need-parent-requires
+parent-requires c κs = group-low _ (start (c .before) .pre) _ _ (accepted (c .before))
+
+own-requires : tie.Need-own-requires
+own-requires c κs =
+    let d = told-at (c .before) in
+    parent-found _ (start d .pre) _ _ (accepted d) _ (c .before .parent .ensures)
+
+own-requires-2 : tie.Need-own-requires-2
+own-requires-2 c κs =
+    let d = told-at (c .before .before .before) in
+    group-low _ (start d .pre) _ _ (accepted d)
+
+add-pages : tie.Need-add-pages
+add-pages c =
+    let p = parent-at c in
+    let d = told-at p in
+    omega (arith, pages-fit _ (start d .pre) _ _ (accepted d) _ (p .parent .ensures) _ _ (c .before .before .own .ensures) (c .own2 .ensures))
+
+set-own-requires : tie.Need-set-own-requires
+set-own-requires c κs =
+    let p = parent-at (c .before) in
+    let d = told-at p in
+    record { long = start d .pre .long; low = parent-found _ (start d .pre) _ _ (accepted d) _ (p .parent .ensures) }
+
+clear-group-requires : tie.Need-clear-group-requires
+clear-group-requires c κs =
+    let d = told-at (parent-at (c .before .before .before)) in
+    record { long = c .before .set-own .ensures .long; low = group-low _ (start d .pre) _ _ (accepted d) }
+
+-- done
+returns-2 : tie.Need-returns-2
+returns-2 c =
+    let o = c .before .before .before .before in
+    let p = parent-at o in
+    let d = told-at p in
+    let k = start d .pre in
+    call-done _ k _ (accepted d) _ _ _
+    (applied-remove _ k _ _ (accepted d) _ _ _ _ _ (p .parent .ensures) (o .before .before .own .ensures) (o .own2 .ensures)
+    (c .before .before .set-own .ensures) (c .clear-group .ensures))
+    (sym (accepted d))
+
+pub remove-spec : {M : Type 1} → statement M
+remove-spec =
+    tie.close
+    (tie.spec
+    vet-remove-requires
+    enum-told
+    enum-told-2
+    returns
+    parent-requires
+    own-requires
+    own-requires-2
+    add-pages
+    set-own-requires
+    clear-group-requires
+    returns-2)

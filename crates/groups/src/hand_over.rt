@@ -1,0 +1,46 @@
+// Document 01, "Hand over". Checks, then one word.
+ghost use mathlib.Core.Path.{_≡_};
+ghost use Rattle.model.specs.Calls.{handOver, verdict};
+ghost use Rattle.tree.specs.Layout.{view};
+ghost use Rattle.tree.specs.Kept.{Kept};
+ghost use Rattle.tree.specs.Calling.{Calling};
+use model::Answer;
+use model::Errno;
+use model::GroupId;
+use tree::layout::GROUPS;
+use tree::layout::Tree;
+use tree::layout::is_live;
+use tree::layout::set_owner;
+
+// The checks, in the paper's order.
+fn vet_hand_over(t: &Tree, user: u32, g: GroupId, owner: u32) -> Answer
+    ensures { λ r. ⌜ r ≡ verdict (view (now (t .entry))) (handOver user (g .0) owner) ⌝ }
+{
+    if g.0 == 0 {
+        return Answer::Refused(Errno::Einval);
+    }
+    if GROUPS <= g.0 {
+        return Answer::Refused(Errno::Einval);
+    }
+    if !is_live(t, g) {
+        return Answer::Refused(Errno::Enoent);
+    }
+    if user != 0 {
+        return Answer::Refused(Errno::Eacces);
+    }
+    Answer::Done
+}
+
+// The group's owner is `owner`.
+// Einval: the root, or a number out of range. Enoent: not live. Eacces: the user is not 0.
+pub fn hand_over(tree: &mut Tree, user: u32, group: GroupId, owner: u32) -> Answer
+    requires { ⌜ Kept (now tree) ⌝ }
+    ensures { λ r. ⌜ Calling (now (tree .entry)) (now (tree .exit)) (handOver user (group .0) owner) (verdict (view (now (tree .entry))) (handOver user (group .0) owner)) r ⌝ }
+{
+    let v = vet_hand_over(tree, user, group, owner);
+    let Answer::Done = v else {
+        return v;
+    };
+    set_owner(tree, group, owner);
+    Answer::Done
+}

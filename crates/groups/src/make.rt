@@ -1,0 +1,57 @@
+// Document 01, "Make". Checks, then one row.
+ghost use mathlib.Core.Path.{_≡_};
+ghost use Rattle.model.specs.Calls.{make, verdict};
+ghost use Rattle.tree.specs.Layout.{view};
+ghost use Rattle.tree.specs.Kept.{Kept};
+ghost use Rattle.tree.specs.Calling.{Calling};
+use model::Answer;
+use model::Errno;
+use model::GroupId;
+use tree::layout::DEEPEST;
+use tree::layout::GROUPS;
+use tree::layout::Tree;
+use tree::layout::depth;
+use tree::layout::is_live;
+use tree::layout::put_group;
+use tree::rule::may_write;
+
+// The checks, in the paper's order.
+fn vet_make(t: &Tree, user: u32, above: GroupId, new: GroupId) -> Answer
+    ensures { λ r. ⌜ r ≡ verdict (view (now (t .entry))) (make user (above .0) (new .0)) ⌝ }
+{
+    if GROUPS <= above.0 {
+        return Answer::Refused(Errno::Einval);
+    }
+    if GROUPS <= new.0 {
+        return Answer::Refused(Errno::Einval);
+    }
+    if !is_live(t, above) {
+        return Answer::Refused(Errno::Enoent);
+    }
+    if is_live(t, new) {
+        return Answer::Refused(Errno::Eexist);
+    }
+    if !may_write(t, user, above) {
+        return Answer::Refused(Errno::Eacces);
+    }
+    if DEEPEST <= depth(t, above) {
+        return Answer::Refused(Errno::Eagain);
+    }
+    Answer::Done
+}
+
+// A group under `parent`, owned by `user`, with an empty set, the defaults and no pages.
+// Einval: a number out of range. Enoent: the parent is not live. Eexist: the new number is. Eacces: the user may not
+// write the parent. Eagain: the parent is as deep as a group can be.
+pub fn make(tree: &mut Tree, user: u32, parent: GroupId, new: GroupId) -> Answer
+    requires { ⌜ Kept (now tree) ⌝ }
+    ensures { λ r. ⌜ Calling (now (tree .entry)) (now (tree .exit)) (make user (parent .0) (new .0)) (verdict (view (now (tree .entry))) (make user (parent .0) (new .0))) r ⌝ }
+{
+    let v = vet_make(tree, user, parent, new);
+    let Answer::Done = v else {
+        return v;
+    };
+    let deep = depth(tree, parent) + 1;
+    put_group(tree, new, parent, deep, user);
+    Answer::Done
+}
