@@ -20,6 +20,7 @@ pub mod ProcessLaws
 pub mod Books
 pub mod Bounds
 pub mod Reached
+pub mod FileReads
 pub mod WriteBack
 pub mod Containment
 pub mod Counts

@@ -24,6 +24,7 @@ use Rattle.model.specs.Demands.{writtenBack, WriteBack}
 use Rattle.model.specs.declared.Setting.{Setting}
 use Rattle.model.specs.declared.File.the-variants.{Value}
 use Rattle.model.specs.declared.Answer.the-variants.{Done}
+use Rattle.model.proofs.FileReads.{file-read}
 use Rattle.model.proofs.FunctionLaws.{upd-id}
 use Rattle.model.proofs.CheckLaws.{pass-first}
 use Rattle.model.proofs.NameLaws.{settingNamed-settingName}
@@ -67,4 +68,9 @@ module _ (t : Tree) (well : WellFormed t) (user g : ℕ) (s : Setting) (live : l
       (ap (λ (f : ℕ → Group). record { machine = t .machine; group = f; process = t .process }) (upd-id (t .group) g))
 
 pub write-back : (t : Tree) → WellFormed t → WriteBack t
-write-back t well = record { accepted = accepted-back t well; same = same-back t well }
+write-back t well =
+    record {
+      shown = λ g s buffer l o f. file-read t well (Value s) g buffer l o f;
+      accepted = accepted-back t well;
+      same = same-back t well;
+    }

@@ -64,6 +64,9 @@ abbrev pub writtenBack : Tree → ℕ → ℕ → Setting → Call
 writtenBack t user g s = writeSetting user g (settingName s) (contents (factsOf t) g (Value s))
 
 pub record WriteBack (t : Tree) : Type 0 where
+  pub shown : (g : ℕ) (s : Setting) (buffer : List ℕ) → lives t g ≡ true → on t (settingController s) g ≡ true
+      → fits (contents (factsOf t) g (Value s)) buffer ≡ true
+      → reply t (read g (settingName s) buffer) ≡ textReply Done (contents (factsOf t) g (Value s)) buffer
   pub accepted : (user g : ℕ) (s : Setting) → lives t g ≡ true → on t (settingController s) g ≡ true
       → mayWrite t user (parents t g) ≡ true → verdict t (writtenBack t user g s) ≡ Done
   pub same : (user g : ℕ) (s : Setting) → lives t g ≡ true → on t (settingController s) g ≡ true
