@@ -10,3 +10,4 @@ pub mod SearchLaws
 pub mod CallLaws
 pub mod TestLaws
 pub mod FreshLaws
+pub mod RoomCallLaws

@@ -1,0 +1,4 @@
+pub mod PlaceLaws
+pub mod BirthLaws
+pub mod ExitLaws
+pub mod MigrationLaws

@@ -1,0 +1,208 @@
+-- A process's place and the running sums above it, changed together: the sums are counted anew along one chain or two, then the
+-- place is stored, and every sum is the number of processes inside. Once for who comes, who goes and who moves. Assumes nothing.
+use Prim.Native.Nat.{ℕ, _+_, _≤_, _<_}
+use native.Mathlib.Omega.{arith}
+use mathlib.Core.Bool.{true}
+use mathlib.Core.List.{List}
+use mathlib.Core.Logic.{_≢_}
+use mathlib.Core.Path.{_≡_, ap, sym, _∙_, subst}
+use lib.ListN.{length}
+use Rattle.model.specs.Functions.{upd, weigh}
+use Rattle.model.specs.Sizes.{processes}
+use Rattle.model.specs.Tree.{Tree, Place, nowhere, at, Process, noProcess, groupOf, isLive, lives, cores, places, parents, atProcess}
+use Rattle.model.specs.Hierarchy.{inside, headcount, population, amount}
+use Rattle.model.specs.Rules.{processGroup}
+use Rattle.model.specs.Calls.{Call, verdict}
+use Rattle.model.specs.Effects.{effect}
+use Rattle.model.specs.declared.Resource.{Resource}
+use Rattle.model.specs.declared.Resource.the-variants.{Pages, Processes}
+use Rattle.model.specs.declared.Answer.the-variants.{Done}
+use Rattle.model.proofs.FunctionLaws.{upd-map, weigh-yes, weigh-zero}
+use Rattle.model.proofs.ChainLaws.{inside-live}
+use Rattle.model.proofs.AmountLaws.{place-live, place-free, population-change}
+use Rattle.model.proofs.ProcessLaws.{process-range}
+use Rattle.tree.specs.Layout.{words, view, sumIn}
+use Rattle.tree.specs.Changes.{Wrote, Adjusted}
+use Rattle.tree.specs.Counters.{listed, ChainOf, Adjustable}
+use Rattle.tree.specs.Kept.{Kept}
+use Rattle.tree.specs.Calling.{Applied}
+use Rattle.tree.specs.declared.chain.Chain.{Chain}
+use Rattle.tree.proofs.KeptLaws.{adjustable}
+use Rattle.tree.proofs.CallLaws.{applied}
+use Rattle.tree.proofs.RoomCallLaws.{sum-after-adjust}
+use Rattle.processes.specs.Place.{Vacant, Standing, Moving, Seated}
+
+pages-apart : Pages ≢ Processes
+pages-apart e = let z : _≡_ {A = ℕ} 0 1 = cc in omega arith
+
+-- what a process in that place adds to the number inside a
+abbrev counted : Tree → Place → ℕ → ℕ
+counted t l a = weigh (inside (parents t) a (groupOf l)) (headcount l)
+
+-- a live process is counted in every group that it is inside
+counted-within : (t : Tree) (p a : ℕ) → p < processes → isLive (places t p) ≡ true → inside (parents t) a (processGroup t p) ≡ true
+    → 1 ≤ population (cores t) (places t) a
+counted-within t p a low l i =
+    let e : places t p ≡ at (processGroup t p) = place-live (places t p) l in
+    let h : counted t (places t p) a ≡ 1 = weigh-yes _ _ i ∙ ap headcount e in
+    omega (arith, population-change (cores t) (places t) p nowhere a low, weigh-zero (inside (parents t) a 0))
+
+-- the sums of processes after one left `from` and came to `to`; all else is as it was
+pub record Recounted (xs ys : List ℕ) (from to : Place) : Type 0 where
+  pub long : length ys ≡ words
+  pub tree : view ys ≡ view xs
+  pub processes : (a : ℕ) → sumIn ys Processes a + counted (view xs) from a ≡ sumIn xs Processes a + counted (view xs) to a
+  pub pages : (a : ℕ) → sumIn ys Pages a ≡ sumIn xs Pages a
+
+module _ (xs ys : List ℕ) (g : ℕ) (c : Chain) (h : ChainOf (view xs) g c) where
+  pub recounted-more : Adjusted xs ys Processes (listed c) 1 0 → Recounted xs ys nowhere (at g)
+  recounted-more d =
+      record {
+        long = d .long;
+        tree = d .tree;
+        processes = λ a.
+            omega (
+              arith,
+              sum-after-adjust xs ys g c Processes 1 0 h d (λ b _. omega arith) a,
+              weigh-zero (inside (parents (view xs)) a g),
+              weigh-zero (inside (parents (view xs)) a 0),
+            );
+        pages = d .other Pages pages-apart;
+      }
+
+  pub recounted-less : ((a : ℕ) → inside (parents (view xs)) a g ≡ true → 1 ≤ sumIn xs Processes a) → Adjusted xs ys Processes (listed c) 0 1
+      → Recounted xs ys (at g) nowhere
+  recounted-less some d =
+      record {
+        long = d .long;
+        tree = d .tree;
+        processes = λ a.
+            omega (
+              arith,
+              sum-after-adjust xs ys g c Processes 0 1 h d (λ b i. omega (arith, some b i)) a,
+              weigh-zero (inside (parents (view xs)) a g),
+              weigh-zero (inside (parents (view xs)) a 0),
+            );
+        pages = d .other Pages pages-apart;
+      }
+
+pub recounted-then : (xs ys zs : List ℕ) (from to : Place) → Recounted xs ys from nowhere → Recounted ys zs nowhere to → Recounted xs zs from to
+recounted-then xs ys zs from to d e =
+    record {
+      long = e .long;
+      tree = e .tree ∙ d .tree;
+      processes = λ a.
+          let same : counted (view ys) to a ≡ counted (view xs) to a = ap (λ (t : Tree). counted t to a) (d .tree) in
+          omega (
+            arith,
+            d .processes a,
+            e .processes a,
+            weigh-zero (inside (parents (view xs)) a 0),
+            weigh-zero (inside (parents (view ys)) a 0),
+          );
+      pages = λ a. e .pages a ∙ d .pages a;
+    }
+
+-- then the place is stored
+module _ (xs ys zs : List ℕ) (k : Kept xs) (p : ℕ) (low : p < processes) (v : Process) where
+  pub seated : Recounted xs ys (places (view xs) p) (v .place) → Wrote ys zs (atProcess (view ys) p v) → Seated xs zs p v
+  seated d w =
+      record {
+        long = w .long;
+        tree = w .tree ∙ ap (λ (t : Tree). atProcess t p v) (d .tree);
+        sums = sums-after;
+      }
+    where
+      sums-after : (r : Resource) (a : ℕ) → lives (view xs) a ≡ true
+          → sumIn zs r a ≡ amount (cores (view xs)) (places (atProcess (view xs) p v)) r a
+      sums-after Pages a l = w .sums Pages a ∙ d .pages a ∙ k .sums Pages a l
+      sums-after Processes a l =
+          let u : population (cores (view xs)) (upd (places (view xs)) p (v .place)) a ≡ sumIn ys Processes a =
+          omega (
+            arith,
+            population-change (cores (view xs)) (places (view xs)) p (v .place) a low,
+            d .processes a,
+            k .sums Processes a l,
+          ) in
+          w .sums Processes a ∙ sym u
+          ∙ ap (λ (pl : ℕ → Place). population (cores (view xs)) pl a) (sym (upd-map (λ (x : Process). x .place) (view xs .process) p v))
+
+-- A birth.
+module _ (xs : List ℕ) (p g : ℕ) (c : Chain) (h : Vacant xs p g c) where
+  pub enter-adjustable : Adjustable xs Processes (listed c) 1 0
+  enter-adjustable =
+      let o = h .group in
+      adjustable xs (o .home .kept) g (o .home .live) c (o .chain) Processes 1 0 (omega arith) (λ a i. omega arith)
+
+  pub entered : (ys zs : List ℕ) (user : ℕ) → Adjusted xs ys Processes (listed c) 1 0
+      → Wrote ys zs (atProcess (view ys) p (record { place = at g; user = user })) → Seated xs zs p (record { place = at g; user = user })
+  entered ys zs user d w =
+      seated xs ys zs (h .group .home .kept) p (h .low) (record { place = at g; user = user })
+      (rw (place-free (places (view xs) p) (h .free)) (recounted-more xs ys g c (h .group .chain) d)) w
+
+-- An end.
+module _ (xs : List ℕ) (p : ℕ) (c : Chain) (h : Standing xs p c) where
+  pub standing-low : p < processes
+  standing-low = process-range (view xs) (h .group .home .kept .formed) p (h .live)
+
+  -- it is counted along its chain
+  standing-inside : (a : ℕ) → inside (parents (view xs)) a (processGroup (view xs) p) ≡ true → 1 ≤ population (cores (view xs)) (places (view xs)) a
+  standing-inside a i = counted-within (view xs) p a standing-low (h .live) i
+
+  pub leave-adjustable : Adjustable xs Processes (listed c) 0 1
+  leave-adjustable =
+      let o = h .group in
+      adjustable xs (o .home .kept) (processGroup (view xs) p) (o .home .live) c (o .chain) Processes 0 1 (omega arith) standing-inside
+
+  -- without the process
+  left-out : (ys : List ℕ) → Adjusted xs ys Processes (listed c) 0 1 → Recounted xs ys (at (processGroup (view xs) p)) nowhere
+  left-out ys d =
+      let o = h .group in
+      recounted-less xs ys (processGroup (view xs) p) c (o .chain)
+      (λ a i. omega (
+        arith,
+        standing-inside a i,
+        o .home .kept .sums Processes a (inside-live (o .home .kept .formed .sound) a (processGroup (view xs) p) (o .home .live) i),
+      ))
+      d
+
+  pub exited : (ys zs : List ℕ) → Adjusted xs ys Processes (listed c) 0 1
+      → Wrote ys zs (atProcess (view ys) p noProcess) → Seated xs zs p noProcess
+  exited ys zs d w =
+      seated xs ys zs (h .group .home .kept) p standing-low noProcess
+      (rw (place-live (places (view xs) p) (h .live)) (left-out ys d)) w
+
+-- A move: first out of the sums of one chain, then into those of the other.
+module _ (xs : List ℕ) (p g : ℕ) (source target : Chain) (h : Moving xs p g source target) (ys : List ℕ)
+    (d : Adjusted xs ys Processes (listed source) 0 1) where
+  out : Recounted xs ys (at (processGroup (view xs) p)) nowhere
+  out = left-out xs p source (h .from) ys d
+
+  pub move-adjustable : Adjustable ys Processes (listed target) 1 0
+  move-adjustable =
+      let o = h .to in
+      let was : Adjustable xs Processes (listed target) 1 0 =
+      adjustable xs (o .home .kept) g (o .home .live) target (o .chain) Processes 1 0 (omega arith) (λ a i. omega arith) in
+      record {
+        long = d .long;
+        apart = was .apart;
+        low = was .low;
+        room = λ a i. omega (arith, was .room a i, out .processes a, weigh-zero (inside (parents (view xs)) a 0));
+        enough = λ a i. omega arith;
+      }
+
+  pub relocated : (zs us : List ℕ) (user : ℕ) → user ≡ view xs .process p .user → Adjusted ys zs Processes (listed target) 1 0
+      → Wrote zs us (atProcess (view zs) p (record { place = at g; user = user }))
+      → Seated xs us p (record { place = at g; user = view xs .process p .user })
+  relocated zs us user q e w =
+      let chain : ChainOf (view ys) g target = subst (λ (t : Tree). ChainOf t g target) (sym (out .tree)) (h .to .chain) in
+      let come : Recounted ys zs nowhere (at g) = recounted-more ys zs g target chain e in
+      seated xs zs us (h .to .home .kept) p (standing-low xs p source (h .from)) (record { place = at g; user = view xs .process p .user })
+      (rw (place-live (places (view xs) p) (h .from .live)) (recounted-then xs ys zs _ _ out come)) (rw q at w)
+
+-- An accepted call whose effect is such a change.
+pub applied-seated : (xs ys : List ℕ) (c : Call) (p : ℕ) (v : Process) → Kept xs → verdict (view xs) c ≡ Done → Seated xs ys p v
+    → effect (view xs) c ≡ atProcess (view xs) p v → Applied xs ys c
+applied-seated xs ys c p v k e d f =
+    applied xs k c e ys (d .long) (d .tree ∙ sym f)
+    (subst (λ (u : Tree). (r : Resource) (a : ℕ) → lives u a ≡ true → sumIn ys r a ≡ amount (cores u) (places u) r a) (sym f) (d .sums))

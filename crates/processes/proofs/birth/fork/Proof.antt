@@ -1,0 +1,135 @@
+-- `processes::birth::fork` meets its contract: the room that the search finds is the definition's, and a process that enters the
+-- parent's group is its effect. Assumes nothing.
+use native.Mathlib.Omega.{arith}
+use mathlib.Core.Path.{_≡_, sym, _∙_}
+use borrow.Author.Needs.{needs}
+use Rattle.model.specs.Calls.{forkChecks}
+use Rattle.model.specs.Checks.{first}
+use Rattle.model.specs.declared.Answer.the-variants.{Done}
+use Rattle.model.proofs.ProcessLaws.{process-range}
+use Rattle.tree.specs.Layout.{view}
+use Rattle.tree.proofs.RoomCallLaws.{RoomVetted, room-call-refused, room-call-home, room-call-searchable, room-call-full, room-call-accepted, room-call-granted}
+use Rattle.processes.proofs.BirthLaws.{fork-call, fork-parent, fork-vetted, fork-vacant, forked}
+use Rattle.processes.proofs.birth.fork.Statement.{statement}
+use Rattle.processes.proofs.birth.fork.Tie as tie
+
+-- the places on the way, from the last to the first
+abbrev found-at : tie.After-enum-told2 → tie.After-first-full
+found-at c = c .before .before
+
+abbrev chain-at : tie.After-first-full → tie.After-chain-of
+chain-at c = c .before .before
+
+abbrev user-at : tie.After-chain-of → tie.After-process-user
+user-at c = c .before .before
+
+abbrev group-at : tie.After-process-user → tie.After-process-group
+group-at c = c .before .before
+
+abbrev done-at : tie.After-process-group → tie.After-enum-told
+done-at c = c .before .before
+
+abbrev vet-at : tie.After-enum-told → tie.After-vet-fork
+vet-at c = c .before .before
+
+abbrev start : tie.After-vet-fork → tie.Start
+start c = c .before .before
+
+-- the checks before room pass
+passed : (c : tie.After-enum-told) → let a = start (vet-at c) .args in first (forkChecks (view (a .tree .now)) (a .parent .0) (a .new .0)) ≡ Done
+passed c = sym (vet-at c .vet-fork .ensures) ∙ c .enum-told .given .1
+
+-- and the group is the parent's
+vetted : (c : tie.After-process-group)
+    → let a = start (vet-at (done-at c)) .args in RoomVetted (a .tree .now) (a .parent .0) (c .process-group .result .0) (forkChecks (view (a .tree .now)) (a .parent .0) (a .new .0))
+vetted c = fork-vetted _ _ _ _ (passed (done-at c)) (c .process-group .ensures)
+
+vet-fork-requires : tie.Need-vet-fork-requires
+vet-fork-requires c κs = search needs
+
+enum-known-vetted : tie.Need-enum-known-vetted
+enum-known-vetted c = search needs
+
+-- refused by the checks before room
+returns : tie.Need-returns
+returns c =
+    let v = c .before .before .before in
+    room-call-refused (fork-call _ (start v .pre) _ _) _ (sym (v .vet-fork .ensures) ∙ c .before .vetted .given .1)
+
+enum-told : tie.Need-enum-told
+enum-told c = search needs
+
+process-group-requires : tie.Need-process-group-requires
+process-group-requires c κs =
+    let d = c .before in
+    process-range _ (start (vet-at d) .pre .formed) _ (fork-parent _ _ _ (passed d))
+
+process-user-requires : tie.Need-process-user-requires
+process-user-requires c κs =
+    let d = done-at (c .before) in
+    process-range _ (start (vet-at d) .pre .formed) _ (fork-parent _ _ _ (passed d))
+
+chain-of-requires : tie.Need-chain-of-requires
+chain-of-requires c κs =
+    let g = group-at (c .before) in
+    room-call-home (fork-call _ (start (vet-at (done-at g)) .pre) _ _) (vetted g)
+
+first-full-requires : tie.Need-first-full-requires
+first-full-requires c κs =
+    let h = c .before in
+    let g = group-at (user-at h) in
+    (h .chain-of .ensures .whole, room-call-searchable (fork-call _ (start (vet-at (done-at g)) .pre) _ _) (vetted g) (h .chain-of .ensures) (omega arith))
+
+enum-known-found : tie.Need-enum-known-found
+enum-known-found c = search needs
+
+-- no room
+returns-2 : tie.Need-returns-2
+returns-2 c =
+    let f = c .before .before .before in
+    let h = chain-at f in
+    let g = group-at (user-at h) in
+    room-call-full (fork-call _ (start (vet-at (done-at g)) .pre) _ _) (vetted g) (h .chain-of .ensures) _ (f .first-full .ensures) _ _ (c .before .found .given .1)
+
+enum-told-2 : tie.Need-enum-told-2
+enum-told-2 c = search needs
+
+enter-requires : tie.Need-enter-requires
+enter-requires c κs =
+    let h = chain-at (found-at (c .before)) in
+    let g = group-at (user-at h) in
+    let d = done-at g in
+    fork-vacant _ _ _ _ (passed d) (g .process-group .ensures) (room-call-home (fork-call _ (start (vet-at d) .pre) _ _) (vetted g)) _ (h .chain-of .ensures)
+
+-- granted
+returns-3 : tie.Need-returns-3
+returns-3 c =
+    let e = c .before .before in
+    let f = found-at e in
+    let h = chain-at f in
+    let u = user-at h in
+    let g = group-at u in
+    let d = done-at g in
+    let o = fork-call _ (start (vet-at d) .pre) _ _ in
+    let v = vetted g in
+    room-call-granted o v (h .chain-of .ensures) _ (f .first-full .ensures) _ (e .enum-told2 .given .1) _
+    (forked _ _ _ _ (passed d) (g .process-group .ensures) (start (vet-at d) .pre)
+    (room-call-accepted o v (h .chain-of .ensures) _ (f .first-full .ensures) _ (e .enum-told2 .given .1)) _ (u .process-user .ensures) _ (c .enter .ensures))
+
+pub fork-spec : {M : Type 1} → statement M
+fork-spec =
+    tie.close
+    (tie.spec
+    vet-fork-requires
+    enum-known-vetted
+    returns
+    enum-told
+    process-group-requires
+    process-user-requires
+    chain-of-requires
+    first-full-requires
+    enum-known-found
+    returns-2
+    enum-told-2
+    enter-requires
+    returns-3)

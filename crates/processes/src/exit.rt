@@ -1,0 +1,44 @@
+// Exit: the end of a process. Its pages stay with its group.
+ghost use mathlib.Core.Path.{_≡_};
+ghost use Rattle.model.specs.Calls.{exit, verdict};
+ghost use Rattle.tree.specs.Layout.{view};
+ghost use Rattle.tree.specs.Kept.{Kept};
+ghost use Rattle.tree.specs.Calling.{Calling};
+use super::place::leave;
+use model::Answer;
+use model::Errno;
+use model::ProcessId;
+use tree::chain::chain_of;
+use tree::layout::PROCESSES;
+use tree::layout::Tree;
+use tree::layout::is_process;
+use tree::layout::process_group;
+
+// 3 no such live process.
+fn vet_exit(tree: &Tree, process: ProcessId) -> Answer
+    requires { ⌜ Kept (now tree) ⌝ }
+    ensures { λ r. ⌜ r ≡ verdict (view (now (tree .entry))) (exit (process .0)) ⌝ }
+{
+    if PROCESSES <= process.0 {
+        return Answer::Refused(Errno::Esrch);
+    }
+    if !is_process(tree, process) {
+        return Answer::Refused(Errno::Esrch);
+    }
+    Answer::Done
+}
+
+// The process's number is free afterwards.
+pub fn exit(tree: &mut Tree, process: ProcessId) -> Answer
+    requires { ⌜ Kept (now tree) ⌝ }
+    ensures { λ r. ⌜ Calling (now (tree .entry)) (now (tree .exit)) (exit (process .0)) (verdict (view (now (tree .entry))) (exit (process .0))) r ⌝ }
+{
+    let vetted = vet_exit(tree, process);
+    let Answer::Done = vetted else {
+        return vetted;
+    };
+    let group = process_group(tree, process);
+    let chain = chain_of(tree, group);
+    leave(tree, process, chain);
+    Answer::Done
+}

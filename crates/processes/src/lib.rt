@@ -1,0 +1,6 @@
+// The calls that change where processes stand. Each makes all its checks first, walks up at most two chains, and leaves the very
+// same words where it refuses. No call moves pages.
+pub mod birth; // a process admitted to the root, or forked beside its parent
+pub mod exit; // a process that ends
+pub mod migration; // a write to cgroup.procs
+mod place; // a process's place and the running sums above it together

@@ -1,0 +1,170 @@
+// Migration: a write to cgroup.procs moves the process that the line names into a group. No limit stops a move, and pages stay
+// where they are.
+ghost use mathlib.Core.Path.{_≡_};
+ghost use Rattle.model.specs.Checks.{first};
+ghost use Rattle.model.specs.Rules.{mayMove, lineProcess};
+ghost use Rattle.model.specs.Calls.{writeProcs, verdict};
+ghost use Rattle.tree.specs.Layout.{view};
+ghost use Rattle.tree.specs.Kept.{Kept, KeptAt};
+ghost use Rattle.tree.specs.Calling.{Calling};
+ghost use Rattle.processes.specs.Place.{Moving};
+ghost use Rattle.processes.specs.Migration.{groupChecks, lineChecks, numberChecks, moveChecks, namedBy, isClosed};
+use super::place::relocate;
+use model::Answer;
+use model::Controller;
+use model::Errno;
+use model::GroupId;
+use model::ProcessId;
+use text::line::is_too_long;
+use text::number::Number;
+use text::number::read_number_line;
+use tree::chain::Chain;
+use tree::chain::chain_of;
+use tree::chain::common_ancestor;
+use tree::layout::GROUPS;
+use tree::layout::PROCESSES;
+use tree::layout::Tree;
+use tree::layout::has;
+use tree::layout::is_live;
+use tree::layout::is_process;
+use tree::layout::process_group;
+use tree::layout::process_user;
+use tree::rule::may_write;
+
+// The live process that a line names, or what the line is refused with.
+enum Named {
+    Process(ProcessId),
+    Refused(Errno),
+}
+
+// 22 the group's number out of range; 2 not live; 13 the user may not write it.
+fn vet_group(tree: &Tree, user: u32, group: GroupId) -> Answer
+    ensures { λ r. ⌜ r ≡ first (groupChecks (view (now (tree .entry))) user (group .0)) ⌝ }
+{
+    if GROUPS <= group.0 {
+        return Answer::Refused(Errno::Einval);
+    }
+    if !is_live(tree, group) {
+        return Answer::Refused(Errno::Enoent);
+    }
+    if !may_write(tree, user, group) {
+        return Answer::Refused(Errno::Eacces);
+    }
+    Answer::Done
+}
+
+// 22 the number is 0; 3 no such live process.
+fn vet_number(tree: &Tree, figure: u64) -> Named
+    ensures { λ r. ⌜ r ≡ namedBy (first (numberChecks (view (now (tree .entry))) figure)) figure ⌝ }
+{
+    if figure == 0 {
+        return Named::Refused(Errno::Einval);
+    }
+    if PROCESSES <= figure {
+        return Named::Refused(Errno::Esrch);
+    }
+    if !is_process(tree, ProcessId(figure)) {
+        return Named::Refused(Errno::Esrch);
+    }
+    Named::Process(ProcessId(figure))
+}
+
+// 22 the line too long, or not one number word; then as its number. A number that does not fit 64 bits is well formed, and no
+// process's.
+fn vet_line(tree: &Tree, line: &[u8]) -> Named
+    ensures { λ r. ⌜ r ≡ namedBy (first (lineChecks (view (now (tree .entry))) (now (line .entry)))) (lineProcess (now (line .entry))) ⌝ }
+{
+    if is_too_long(line) {
+        return Named::Refused(Errno::Einval);
+    }
+    let number = read_number_line(line);
+    match number {
+        Number::Figure(figure) => vet_number(tree, figure),
+        Number::TooLarge => Named::Refused(Errno::Esrch),
+        Number::NotANumber => Named::Refused(Errno::Einval),
+    }
+}
+
+// Whether a user may move a process: user 0, or the process's own user that may write the common ancestor of both groups. The
+// chains are those of the process's group and of the group that it moves to.
+fn may_move(
+    tree: &Tree,
+    user: u32,
+    process: ProcessId,
+    group: GroupId,
+    source: Chain,
+    target: Chain,
+) -> bool
+    requires { ⌜ Moving (now tree) (process .0) (group .0) source target ⌝ }
+    ensures { λ r. ⌜ r ≡ mayMove (view (now (tree .entry))) user (process .0) (group .0) ⌝ }
+{
+    if user == 0 {
+        return true;
+    }
+    if user as u64 != process_user(tree, process) {
+        return false;
+    }
+    may_write(tree, user, common_ancestor(source, target))
+}
+
+// Whether the inner-process rule closes a group to processes: it is not the root, and its set is not empty.
+fn is_closed(tree: &Tree, group: GroupId) -> bool
+    requires { ⌜ KeptAt (now tree) (group .0) ⌝ }
+    ensures { λ r. ⌜ r ≡ isClosed (view (now (tree .entry))) (group .0) ⌝ }
+{
+    if group.0 == 0 {
+        return false;
+    }
+    if has(tree, group, Controller::Cpu) {
+        return true;
+    }
+    if has(tree, group, Controller::Memory) {
+        return true;
+    }
+    has(tree, group, Controller::Pids)
+}
+
+// 13 the user may not move the process there; 16 the group is closed to processes.
+fn vet_move(
+    tree: &Tree,
+    user: u32,
+    process: ProcessId,
+    group: GroupId,
+    source: Chain,
+    target: Chain,
+) -> Answer
+    requires { ⌜ Moving (now tree) (process .0) (group .0) source target ⌝ }
+    ensures { λ r. ⌜ r ≡ first (moveChecks (view (now (tree .entry))) user (process .0) (group .0)) ⌝ }
+{
+    if !may_move(tree, user, process, group, source, target) {
+        return Answer::Refused(Errno::Eacces);
+    }
+    if is_closed(tree, group) {
+        return Answer::Refused(Errno::Ebusy);
+    }
+    Answer::Done
+}
+
+// Moves the process that the line names into a group.
+pub fn write_procs(tree: &mut Tree, user: u32, group: GroupId, line: &[u8]) -> Answer
+    requires { ⌜ Kept (now tree) ⌝ }
+    ensures { λ r. ⌜ Calling (now (tree .entry)) (now (tree .exit)) (writeProcs user (group .0) (now (line .entry))) (verdict (view (now (tree .entry))) (writeProcs user (group .0) (now (line .entry)))) r ⌝ }
+{
+    let open = vet_group(tree, user, group);
+    let Answer::Done = open else {
+        return open;
+    };
+    let named = vet_line(tree, line);
+    let process = match named {
+        Named::Process(process) => process,
+        Named::Refused(errno) => return Answer::Refused(errno),
+    };
+    let source = chain_of(tree, process_group(tree, process));
+    let target = chain_of(tree, group);
+    let vetted = vet_move(tree, user, process, group, source, target);
+    let Answer::Done = vetted else {
+        return vetted;
+    };
+    relocate(tree, process, group, source, target);
+    Answer::Done
+}
