@@ -110,7 +110,7 @@ fn child_holds(t: &Tree, g: GroupId, k: GroupId, c: Controller) -> bool
 }
 
 // Whether a process stands in a group.
-fn stands_in(t: &Tree, p: ProcessId, g: GroupId) -> bool
+pub fn stands_in(t: &Tree, p: ProcessId, g: GroupId) -> bool
     requires { ⌜ p .0 < processes ⌝ }
     ensures { λ r. ⌜ r ≡ standsIn (places (view (now (t .entry))) (p .0)) (g .0) ⌝ }
 {

@@ -1,0 +1,6 @@
+pub mod WrittenLaws
+pub mod PathLaws
+pub mod NameLineLaws
+pub mod ListingLaws
+pub mod ValueTextLaws
+pub mod ReadingLaws

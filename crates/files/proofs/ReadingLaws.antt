@@ -1,0 +1,138 @@
+-- How the promise of a call that delivers a text is met: by a refusal, which leaves the reply as it is, or by the delivery
+-- of the text. Assumes nothing.
+use Prim.Native.Nat.{ℕ, _≤_, _<_}
+use native.Mathlib.Omega.{arith}
+use mathlib.Core.Bool.{Bool, true, false}
+use mathlib.Core.List.{List, [], _∷_}
+use mathlib.Core.Option.{Option, none, some}
+use mathlib.Core.Path.{_≡_, refl, ap, sym, _∙_}
+use lib.ListN.{take}
+use borrow.Author.Tests.{le-leb, lt-leb}
+use Rattle.model.specs.Functions.{pick, passes, mapped, orElse}
+use Rattle.model.specs.Sizes.{groups, processes}
+use Rattle.model.specs.Checks.{need, first, barred, lacking, past, met}
+use Rattle.model.specs.Tree.{isLive, lives, places}
+use Rattle.model.specs.Hierarchy.{factsOf}
+use Rattle.model.specs.Names.{fileNamed}
+use Rattle.model.specs.Files.{isPresent, contents, membershipLine, fits}
+use Rattle.model.specs.Calls.{Call, read, membership, checks, verdict, fileText}
+use Rattle.model.specs.declared.Errno.{Errno}
+use Rattle.model.specs.declared.Errno.the-variants.{Einval, Enoent, Esrch, Enospc}
+use Rattle.model.specs.declared.Answer.the-variants.{Done, Refused}
+use Rattle.model.specs.declared.ReadAnswer.{ReadAnswer}
+use Rattle.model.specs.declared.File.{File}
+use Rattle.model.proofs.FunctionLaws.{split}
+use Rattle.model.proofs.CheckLaws.{says-first, first-says}
+use Rattle.model.proofs.AmountLaws.{place-live}
+use Rattle.text.specs.Name.{asFileName}
+use Rattle.text.specs.Write.{Wrote, Delivered, delivery}
+use Rattle.text.specs.declared.name.FileName.{FileName}
+use Rattle.tree.specs.Layout.{view}
+use Rattle.tree.specs.Kept.{Kept}
+use Rattle.files.specs.Reading.{Reading}
+
+module _ (xs : List ℕ) (c : Call) (text old : List ℕ) where
+  reading-refused : (e : Errno) → verdict (view xs) c ≡ Refused e → Reading xs c text old (ReadAnswer.Refused e) old
+  reading-refused e v = record { answer = rw v; buffer = rw v }
+
+  reading-delivered : verdict (view xs) c ≡ delivery text old → {part new : List ℕ} {r : ReadAnswer} → part ≡ text
+      → Delivered part old r new → Reading xs c text old r new
+  reading-delivered v {part} {new} {r} p d =
+      let w : Delivered text old r new = rw p at d in
+      record { answer = rw v (w .answer); buffer = rw v (w .buffer) }
+
+-- the last check of both calls is the delivery's
+last-check : (text old : List ℕ) → first (need (fits text old) Enospc ∷ []) ≡ delivery text old
+unfolding first
+last-check text old = go (fits text old)
+  where
+    go : (b : Bool) → first (need b Enospc ∷ []) ≡ pick b Done (Refused Enospc)
+    go true = refl
+    go false = refl
+
+-- ---- read
+
+module _ (xs : List ℕ) (g : ℕ) (name old : List ℕ) where
+  abbrev Read : ReadAnswer → List ℕ → Type 0
+  Read r new = Reading xs (read g name old) (fileText (factsOf (view xs)) g name) old r new
+
+  pub read-no-number : groups ≤ g → Read (ReadAnswer.Refused Einval) old
+  unfolding verdict checks
+  read-no-number h = reading-refused _ _ _ _ Einval (sym (says-first (barred (le-leb groups g h))))
+
+  module _ (h : g < groups) where
+    pub read-dead : lives (view xs) g ≡ false → Read (ReadAnswer.Refused Enoent) old
+    unfolding verdict checks
+    read-dead d = reading-refused _ _ _ _ Enoent (sym (says-first (past (lt-leb groups g h) (lacking d))))
+
+    module _ (l : lives (view xs) g ≡ true) where
+      read-absent : passes (fileNamed name) (isPresent (view xs) g) ≡ false → Read (ReadAnswer.Refused Enoent) old
+      unfolding verdict checks
+      read-absent a = reading-refused _ _ _ _ Enoent (sym (says-first (past (lt-leb groups g h) (met l (lacking a)))))
+
+      pub read-unknown : FileName.Unknown ≡ asFileName (fileNamed name) → Read (ReadAnswer.Refused Enoent) old
+      read-unknown u = read-absent (go (fileNamed name) u)
+        where
+          go : (o : Option File) → FileName.Unknown ≡ asFileName o → passes o (isPresent (view xs) g) ≡ false
+          go none e = refl
+          go (some f) e = let z : _≡_ {A = ℕ} 0 1 = cc in absurd (omega arith)
+
+      module _ (f : File) (u : FileName.Of f ≡ asFileName (fileNamed name)) where
+        found : fileNamed name ≡ some f
+        found = go (fileNamed name) u
+          where
+            go : (o : Option File) → FileName.Of f ≡ asFileName o → o ≡ some f
+            go none e = let z : _≡_ {A = ℕ} 0 1 = cc in absurd (omega arith)
+            go (some b) e = cc
+
+        pub read-not-present : isPresent (view xs) g f ≡ false → Read (ReadAnswer.Refused Enoent) old
+        read-not-present a = read-absent (ap (λ (o : Option File). passes o (isPresent (view xs) g)) found ∙ a)
+
+        text : fileText (factsOf (view xs)) g name ≡ contents (factsOf (view xs)) g f
+        text = ap (λ (o : Option File). orElse [] (mapped (contents (factsOf (view xs)) g) o)) found
+
+        accepted : isPresent (view xs) g f ≡ true
+            → verdict (view xs) (read g name old) ≡ delivery (fileText (factsOf (view xs)) g name) old
+        unfolding verdict checks
+        accepted a =
+            sym
+            (says-first
+            (past (lt-leb groups g h)
+            (met l
+            (met (ap (λ (o : Option File). passes o (isPresent (view xs) g)) found ∙ a)
+            (first-says (need (fits (fileText (factsOf (view xs)) g name) old) Enospc ∷ []))))))
+            ∙ last-check (fileText (factsOf (view xs)) g name) old
+
+        pub read-delivered : isPresent (view xs) g f ≡ true → {a b : List ℕ} {k : ℕ}
+            → Wrote a 0 (contents (factsOf (view xs)) g f) b k → {r : ReadAnswer} {new : List ℕ}
+            → Delivered (take k b) old r new → Read r new
+        read-delivered a w d = reading-delivered _ _ _ _ (accepted a) (w .front ∙ sym text) d
+
+-- ---- membership
+
+module _ (xs : List ℕ) (p : ℕ) (old : List ℕ) where
+  abbrev Membership : ReadAnswer → List ℕ → Type 0
+  Membership r new = Reading xs (membership p old) (membershipLine (view xs) p) old r new
+
+  pub membership-dead : isLive (places (view xs) p) ≡ false → Membership (ReadAnswer.Refused Esrch) old
+  unfolding verdict checks
+  membership-dead d = reading-refused _ _ _ _ Esrch (sym (says-first (lacking d)))
+
+  -- a number out of range is not live
+  pub membership-no-number : Kept xs → processes ≤ p → Membership (ReadAnswer.Refused Esrch) old
+  membership-no-number k h =
+      membership-dead
+      (split (isLive (places (view xs) p))
+      (λ l. absurd (omega (arith, k .formed .placed .range p _ (place-live (places (view xs) p) l))))
+      (λ d. d))
+
+  pub membership-delivered : isLive (places (view xs) p) ≡ true → {a b : List ℕ} {k : ℕ}
+      → Wrote a 0 (membershipLine (view xs) p) b k → {r : ReadAnswer} {new : List ℕ}
+      → Delivered (take k b) old r new → Membership r new
+  unfolding verdict checks
+  membership-delivered l w d =
+      reading-delivered _ _ _ _
+      (sym (says-first (met l (first-says (need (fits (membershipLine (view xs) p) old) Enospc ∷ []))))
+      ∙ last-check (membershipLine (view xs) p) old)
+      (w .front)
+      d

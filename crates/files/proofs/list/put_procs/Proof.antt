@@ -1,0 +1,85 @@
+-- `files::list::put_procs` meets its contract. The invariant: the lines written so far, and those of the numbers that are
+-- left, are all the lines. The measure is how many numbers are left. Assumes nothing.
+use Prim.Native.Nat.{_-_}
+use native.Mathlib.Omega.{arith}
+use mathlib.Core.Path.{_≡_, refl, sym, _∙_}
+use lib.ListN.{length}
+use Rattle.model.specs.Sizes.{processes}
+use Rattle.model.specs.Tree.{places}
+use Rattle.model.specs.Files.{contents}
+use Rattle.tree.specs.Layout.{view}
+use Rattle.files.proofs.ListingLaws.{Listing, listing-start, listing-room, listing-line, listing-skip, listing-end}
+use Rattle.files.proofs.list.put_procs.Statement.{statement}
+use Rattle.files.proofs.list.put_procs.Tie as tie
+
+abbrev Inv-loop : tie.InvT-loop
+Inv-loop t g out₀ at₀ p₀ out at p = (length out ≡ length out₀) × Listing (places (view t)) (g .0) out at p
+
+abbrev μ-loop : tie.MeasureT-loop
+μ-loop t g out₀ at₀ p₀ out at p = processes - p
+
+loop-holds : tie.Need-loop-holds Inv-loop μ-loop
+loop-holds c = (refl, listing-start _ _ _)
+
+stands-in-requires : tie.Need-stands-in-requires Inv-loop μ-loop
+stands-in-requires c κs = omega arith
+
+put-line-requires : tie.Need-put-line-requires Inv-loop μ-loop
+put-line-requires c κs =
+    let l = c .before .before .before .before in
+    let s = l .before .before in
+    listing-room _ _ _ _ _ (l .loop .inv .1) (c .before .before .before .loop-test .taken) (omega (arith, s .pre .room, l .loop .inv .0))
+
+add-p : tie.Need-add-p Inv-loop μ-loop
+add-p c = omega arith
+
+loop-less : tie.Need-loop-less Inv-loop μ-loop
+loop-less c = omega arith
+
+loop-again : tie.Need-loop-again Inv-loop μ-loop
+loop-again c =
+    let w = c .before .before in
+    let i = w .before .before in
+    let l = i .before .before .before in (
+      w .put-line .kept .0 ∙ l .loop .inv .0,
+      listing-line _ _ _ _ _ (l .loop .inv .1) (i .before .before .loop-test .taken) _ _
+          (sym (i .before .stands-in .ensures) ∙ i .if1 .taken) (w .put-line .ensures),
+    )
+
+add-p-2 : tie.Need-add-p-2 Inv-loop μ-loop
+add-p-2 c = omega arith
+
+loop-less-2 : tie.Need-loop-less-2 Inv-loop μ-loop
+loop-less-2 c = omega arith
+
+loop-again-2 : tie.Need-loop-again-2 Inv-loop μ-loop
+loop-again-2 c =
+    let l = c .before .before .before in (
+      l .loop .inv .0,
+      listing-skip _ _ _ _ _ (l .loop .inv .1) (c .before .before .loop-test .taken) (sym (c .before .stands-in .ensures) ∙ c .if1 .left),
+    )
+
+same-length : tie.Need-same-length Inv-loop μ-loop
+same-length c = c .before .loop .inv .0
+
+returns : tie.Need-returns Inv-loop μ-loop
+unfolding contents
+returns c = listing-end _ _ _ _ _ (c .before .loop .inv .1) (c .loop-test .left) _
+
+pub put-procs-spec : {M : Type 1} → statement M
+put-procs-spec =
+    tie.close
+    (tie.spec
+    Inv-loop
+    μ-loop
+    loop-holds
+    stands-in-requires
+    put-line-requires
+    add-p
+    loop-less
+    loop-again
+    add-p-2
+    loop-less-2
+    loop-again-2
+    same-length
+    returns)

@@ -1,0 +1,141 @@
+-- `files::path::put_path` meets its contract: the path of a group is its parent's, a "/" and its number. The measure is the
+-- depth, which is one less for the parent. Assumes nothing.
+use Prim.Native.Nat.{ℕ, _<_}
+use native.Mathlib.Omega.{arith}
+use mathlib.Core.Path.{_∙_}
+use borrow.Fn.Kinds.{In}
+use borrow.Fn.PlainCycle.{Measures, is, falls, and}
+use Rattle.model.specs.Tree.{parents}
+use Rattle.text.proofs.WriteLaws.{wrote-then, wrote-as}
+use Rattle.text.proofs.write.put_byte.Reads as put-byte-reads
+use Rattle.text.proofs.write.put_number.Reads as put-number-reads
+use Rattle.tree.specs.Layout.{view}
+use Rattle.tree.proofs.layout.parent.Reads as parent-reads
+use Rattle.files.proofs.WrittenLaws.{wrote-nothing}
+use Rattle.files.proofs.PathLaws.{path-none, deep-live, deep-above, path-deep, length-path-deep}
+use Rattle.files.proofs.path.+put_path.{statement}
+use Rattle.files.proofs.path.+put_path.Lts-put_path as lts
+use Rattle.files.proofs.path.put_path.Kinds as put-path-kinds
+use Rattle.files.proofs.path.put_path.Reads as put-path
+use Rattle.files.proofs.path.+put_path.Tie.{close}
+
+abbrev μ-put-path : Measures 2 put-path-kinds.ps ℕ
+μ-put-path κs a = a .1 .1 .0
+
+abbrev put-path-at : ℕ → In 2 put-path-kinds.ps
+put-path-at t = and 2 put-path-kinds.ps (is 2 put-path-kinds.ps μ-put-path t) put-path.Pre
+
+abbrev put-path-below : ℕ → In 2 put-path-kinds.ps
+put-path-below t =
+    and 2 put-path-kinds.ps (falls 2 put-path-kinds.ps _<_ μ-put-path t) put-path.Pre
+
+-- what is known of the callees: of `put_path` itself, at smaller depths
+abbrev claims : ℕ → lts.Claims
+claims t = (
+  parent-reads.Asked,
+  parent-reads.Learnt,
+  put-path-below t,
+  put-path.Post,
+  put-byte-reads.Asked,
+  put-byte-reads.Learnt,
+  put-number-reads.Asked,
+  put-number-reads.Learnt,
+)
+
+module _ (t : ℕ) where
+  -- the root
+  returns : lts.Need-returns (claims t) (put-path-at t) put-path.Post
+  returns c =
+      let a = c .before .before .args in
+      wrote-as (path-none (parents (view (a .t .now))) (a .deep) (a .g .0) (c .if1 .taken)) (wrote-nothing (a .out .now) (a .at))
+
+  parent-requires : lts.Need-parent-requires (claims t) (put-path-at t) put-path.Post
+  parent-requires c κs = let k = c .before .before .pre .1 .group in k .kept .formed .sound .range _ (k .live)
+
+  sub-put-path : lts.Need-sub-put-path (claims t) (put-path-at t) put-path.Post
+  sub-put-path c = omega (arith, c .before .if1 .left)
+
+  put-path-requires : lts.Need-put-path-requires (claims t) (put-path-at t) put-path.Post
+  put-path-requires c κs =
+      let u = c .before in
+      let s = u .before .before .before in
+      let k = s .pre .1 .group in
+      let w = k .kept .formed .sound in
+      let nz = u .before .if1 .left in (
+        omega (arith, nz, s .pre .0),
+        record {
+          group = record { kept = k .kept; live = deep-live w _ _ _ (k .live) (s .pre .1 .level) nz (u .parent .ensures) };
+          level = deep-above w _ _ _ (k .live) (s .pre .1 .level) nz (u .parent .ensures);
+          room =
+              omega (
+                arith,
+                length-path-deep w (s .args .g .0) (s .args .deep) (u .parent .result .0) (k .live) (s .pre .1 .level) nz (u .parent .ensures),
+                s .pre .1 .room,
+              );
+        },
+      )
+
+  put-byte-requires : lts.Need-put-byte-requires (claims t) (put-path-at t) put-path.Post
+  put-byte-requires c κs =
+      let p = c .before .before .before in
+      let u = p .before .before in
+      let s = u .before .before .before in
+      let k = s .pre .1 .group in
+      omega (
+        arith,
+        length-path-deep (k .kept .formed .sound) (s .args .g .0) (s .args .deep) (u .parent .result .0) (k .live) (s .pre .1 .level) (u .before .if1 .left) (u .parent .ensures),
+        s .pre .1 .room,
+        p .put-path .ensures .end,
+        p .put-path .kept .1 .1 .1 .0,
+      )
+
+  put-number-requires : lts.Need-put-number-requires (claims t) (put-path-at t) put-path.Post
+  put-number-requires c κs =
+      let b = c .before .before .before in
+      let p = b .before .before .before .before in
+      let u = p .before .before in
+      let s = u .before .before .before in
+      let k = s .pre .1 .group in
+      omega (
+        arith,
+        length-path-deep (k .kept .formed .sound) (s .args .g .0) (s .args .deep) (u .parent .result .0) (k .live) (s .pre .1 .level) (u .before .if1 .left) (u .parent .ensures),
+        s .pre .1 .room,
+        p .put-path .ensures .end,
+        p .put-path .kept .1 .1 .1 .0,
+        b .put-byte .ensures .end,
+        b .put-byte .kept .0,
+      )
+
+  same-length : lts.Need-same-length (claims t) (put-path-at t) put-path.Post
+  same-length c =
+      let n = c .before .before in
+      let b = n .before .before .before .before in
+      let p = b .before .before .before .before in
+      n .put-number .kept .0 ∙ b .put-byte .kept .0 ∙ p .put-path .kept .1 .1 .1 .0
+
+  -- the parent's path, and then the number
+  returns-2 : lts.Need-returns-2 (claims t) (put-path-at t) put-path.Post
+  returns-2 c =
+      let n = c .before .before in
+      let b = n .before .before .before .before in
+      let p = b .before .before .before .before in
+      let u = p .before .before in
+      let s = u .before .before .before in
+      let k = s .pre .1 .group in
+      wrote-as
+      (path-deep (k .kept .formed .sound) (s .args .g .0) (s .args .deep) (u .parent .result .0) (k .live) (s .pre .1 .level) (u .before .if1 .left) (u .parent .ensures))
+      (wrote-then (p .put-path .ensures) (wrote-then (b .put-byte .ensures) (n .put-number .ensures)))
+
+pub +put-path-spec : {M : Type 1} → statement M
++put-path-spec =
+    close μ-put-path λ t. lts.spec (claims t)
+    (put-path-at t)
+    put-path.Post
+    (returns t)
+    (parent-requires t)
+    (sub-put-path t)
+    (put-path-requires t)
+    (put-byte-requires t)
+    (put-number-requires t)
+    (same-length t)
+    (returns-2 t)

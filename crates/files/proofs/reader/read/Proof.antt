@@ -1,0 +1,141 @@
+-- `files::reader::read` meets its contract: the text is made in a scratch array, and delivered. Assumes nothing.
+use Prim.Native.Nat.{_<_}
+use native.Mathlib.Omega.{arith}
+use mathlib.Core.Bool.{true}
+use mathlib.Core.Path.{_≡_, sym, _∙_}
+use lib.Seq.{length-take-le}
+use borrow.Author.Tests.{not-true, not-false}
+use borrow.Author.Needs.{needs}
+use Rattle.model.specs.Sizes.{groups}
+use Rattle.model.specs.Tree.{lives}
+use Rattle.tree.specs.Layout.{view}
+use Rattle.tree.proofs.KeptLaws.{live-row}
+use Rattle.files.proofs.WrittenLaws.{wrote-inside}
+use Rattle.files.proofs.ReadingLaws.{read-no-number, read-dead, read-unknown, read-not-present, read-delivered}
+use Rattle.files.proofs.reader.read.Statement.{statement}
+use Rattle.files.proofs.reader.read.Tie as tie
+
+-- what the first two tests say of the group
+low : (c : tie.After-is-live) → c .before .before .before .before .before .args .group .0 < groups
+low c = omega (arith, c .before .if1 .left)
+
+live : (c : tie.Else2)
+    → lives (view (c .before .before .before .before .before .before .args .tree .now))
+    (c .before .before .before .before .before .before .args .group .0)
+    ≡ true
+live c = sym (c .before .is-live .ensures) ∙ not-false _ (c .if2 .left)
+
+-- a number out of range
+returns : tie.Need-returns
+returns c =
+    let a = c .before .before .before .before .args in
+    read-no-number (a .tree .now) (a .group .0) (a .file .now) (a .reply .now) (c .if1 .taken)
+
+is-live-requires : tie.Need-is-live-requires
+is-live-requires c κs = search needs
+
+-- not live
+returns-2 : tie.Need-returns-2
+returns-2 c =
+    let l = c .before in
+    let a = l .before .before .before .before .before .args in
+    read-dead (a .tree .now) (a .group .0) (a .file .now) (a .reply .now) (low l)
+    (sym (l .is-live .ensures) ∙ not-true _ (c .if2 .taken))
+
+file-named-requires : tie.Need-file-named-requires
+file-named-requires c κs = search needs
+
+enum-known-named : tie.Need-enum-known-named
+enum-known-named c = search needs
+
+enum-told : tie.Need-enum-told
+enum-told c = search needs
+
+-- no such file
+returns-3 : tie.Need-returns-3
+returns-3 c =
+    let f = c .before .before in
+    let i = f .before in
+    let a = i .before .before .before .before .before .before .args in
+    read-unknown (a .tree .now) (a .group .0) (a .file .now) (a .reply .now) (low (i .before)) (live i)
+    (sym (c .enum-told .given .1) ∙ f .file-named .ensures)
+
+is-present-requires : tie.Need-is-present-requires
+is-present-requires c κs =
+    let i = c .before .before .before .before in
+    live-row _ (i .before .before .before .before .before .before .pre) _ (live i)
+
+-- absent there
+returns-4 : tie.Need-returns-4
+returns-4 c =
+    let h = c .before in
+    let n = h .before .before in
+    let f = n .before .before in
+    let i = f .before in
+    let a = i .before .before .before .before .before .before .args in
+    read-not-present (a .tree .now) (a .group .0) (a .file .now) (a .reply .now) (low (i .before)) (live i) _
+    (sym (n .named .given .1) ∙ f .file-named .ensures)
+    (sym (h .is-present .ensures) ∙ not-true _ (c .if3 .taken))
+
+slice-aggregate-render : tie.Need-slice-aggregate-render
+slice-aggregate-render c = search needs
+
+render-requires : tie.Need-render-requires
+render-requires c κs =
+    let i = c .before .before .before .before .before .before .before in
+    let s = i .before .before .before .before .before .before in
+    record { group = record { kept = s .pre; live = live i }; room = omega arith }
+
+array-share-prefix-scratch : tie.Need-array-share-prefix-scratch
+array-share-prefix-scratch c =
+    let w = c .before .before in
+    omega (arith, wrote-inside (omega arith) (w .render .ensures), w .render .kept .1 .1 .1 .0)
+
+slice-aggregate-deliver : tie.Need-slice-aggregate-deliver
+slice-aggregate-deliver c =
+    let w = c .before .before .before in
+    sym (length-take-le _ _ (wrote-inside (omega arith) (w .render .ensures)))
+
+deliver-requires : tie.Need-deliver-requires
+deliver-requires c κs = search needs
+
+same-length : tie.Need-same-length
+same-length c = search needs
+
+-- the text, or 28
+returns-5 : tie.Need-returns-5
+returns-5 c =
+    let d = c .before .before in
+    let w = d .before .before .before .before in
+    let j = w .before .before in
+    let h = j .before in
+    let n = h .before .before in
+    let f = n .before .before in
+    let i = f .before in
+    let a = i .before .before .before .before .before .before .args in
+    read-delivered (a .tree .now) (a .group .0) (a .file .now) (a .reply .now) (low (i .before)) (live i) _
+    (sym (n .named .given .1) ∙ f .file-named .ensures)
+    (sym (h .is-present .ensures) ∙ not-false _ (j .if3 .left))
+    (w .render .ensures)
+    (d .deliver .ensures)
+
+pub read-spec : {M : Type 1} → statement M
+read-spec =
+    tie.close
+    (tie.spec
+    returns
+    is-live-requires
+    returns-2
+    file-named-requires
+    enum-known-named
+    enum-told
+    returns-3
+    is-present-requires
+    returns-4
+    slice-aggregate-render
+    render-requires
+    array-share-prefix-scratch
+    slice-aggregate-deliver
+    deliver-requires
+    same-length
+    returns-5)

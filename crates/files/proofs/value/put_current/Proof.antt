@@ -1,0 +1,43 @@
+-- `files::value::put_current` meets its contract: the running sum is what the definitions count. Assumes nothing.
+use native.Mathlib.Omega.{arith}
+use borrow.Author.Needs.{needs}
+use Rattle.text.proofs.WriteLaws.{wrote-as}
+use Rattle.files.proofs.ValueTextLaws.{figure-fits, length-figure, current-text}
+use Rattle.files.proofs.value.put_current.Statement.{statement}
+use Rattle.files.proofs.value.put_current.Tie as tie
+
+sum-requires : tie.Need-sum-requires
+sum-requires c κs = let r = c .before .pre .group in r .kept .formed .sound .range _ (r .live)
+
+to-figure-requires : tie.Need-to-figure-requires
+to-figure-requires c κs =
+    let s = c .before .before in
+    figure-fits (s .args .t .now) (s .args .g .0) (s .pre .group) (s .args .s) _ (c .sum .ensures)
+
+put-line-requires : tie.Need-put-line-requires
+put-line-requires c κs =
+    let f = c .before in
+    let u = f .before in
+    let s = u .before .before in
+    omega (
+      arith,
+      length-figure (s .args .t .now) (s .args .g .0) (s .pre .group) (s .args .s) (u .sum .result) (f .to-figure .result) (u .sum .ensures) (f .to-figure .ensures),
+      s .pre .room,
+    )
+
+same-length : tie.Need-same-length
+same-length c = search needs
+
+returns : tie.Need-returns
+returns c =
+    let w = c .before .before in
+    let f = w .before .before in
+    let u = f .before in
+    let s = u .before .before in
+    wrote-as
+    (current-text (s .args .t .now) (s .args .g .0) (s .pre .group) (s .args .s) _ _ (u .sum .ensures) (f .to-figure .ensures))
+    (w .put-line .ensures)
+
+pub put-current-spec : {M : Type 1} → statement M
+put-current-spec =
+    tie.close (tie.spec sum-requires to-figure-requires put-line-requires same-length returns)

@@ -1,0 +1,145 @@
+-- `files::value::put_value` meets its contract: each arm writes what its setting shows. Assumes nothing.
+use native.Mathlib.Omega.{arith}
+use mathlib.Core.Path.{_≡_, ap, sym, _∙_}
+use lib.ListN.{length}
+use borrow.Author.Needs.{needs}
+use Rattle.model.specs.Tree.{settingsAt}
+use Rattle.model.specs.Settings.{shown, valueText}
+use Rattle.model.specs.declared.Setting.{Setting}
+use Rattle.model.specs.declared.Setting.the-variants.{CpuWeight, CpuMax, Max}
+use Rattle.text.proofs.WriteLaws.{wrote-as}
+use Rattle.tree.specs.Layout.{view}
+use Rattle.files.proofs.ValueTextLaws.{length-value, limit-range, weight-text, bandwidth-text, limit-text}
+use Rattle.files.proofs.value.put_value.Statement.{statement}
+use Rattle.files.proofs.value.put_value.Tie as tie
+
+-- what the group shows, by the setting that was matched
+shows : (s : tie.Start) {x y : Setting} → x ≡ y
+    → valueText (shown x (settingsAt (view (s .args .t .now)) (s .args .g .0)))
+    ≡ valueText (shown y (settingsAt (view (s .args .t .now)) (s .args .g .0)))
+shows s e = ap (λ (z : Setting). valueText (shown z (settingsAt (view (s .args .t .now)) (s .args .g .0)))) e
+
+enum-told : tie.Need-enum-told
+enum-told c = search needs
+
+weight-requires : tie.Need-weight-requires
+weight-requires c κs = let r = c .before .before .before .before .pre .group in r .kept .formed .sound .range _ (r .live)
+
+put-number-requires : tie.Need-put-number-requires
+put-number-requires c κs =
+    let s = c .before .before .before .before .before in
+    let t = s .args .t .now in
+    omega (arith, ap length (weight-text t (s .args .g .0) (s .pre .group) (c .weight .result) (c .weight .ensures)), length-value t (s .args .g .0) (s .pre .group) CpuWeight, s .pre .room)
+
+enum-told-2 : tie.Need-enum-told-2
+enum-told-2 c = search needs
+
+quota-requires : tie.Need-quota-requires
+quota-requires c κs = let r = c .before .before .before .before .pre .group in r .kept .formed .sound .range _ (r .live)
+
+period-requires : tie.Need-period-requires
+period-requires c κs = let r = c .before .before .before .before .before .pre .group in r .kept .formed .sound .range _ (r .live)
+
+put-bandwidth-requires : tie.Need-put-bandwidth-requires
+put-bandwidth-requires c κs =
+    let q = c .before in
+    let s = q .before .before .before .before .before in
+    let t = s .args .t .now in
+    omega (
+      arith,
+      ap length (bandwidth-text t (s .args .g .0) (s .pre .group) (q .quota .result) (c .period .result) (q .quota .ensures) (c .period .ensures)),
+      length-value t (s .args .g .0) (s .pre .group) CpuMax,
+      s .pre .room,
+    )
+
+enum-known-s : tie.Need-enum-known-s
+enum-known-s c = search needs
+
+limit-requires : tie.Need-limit-requires
+limit-requires c κs = let r = c .before .before .before .before .before .pre .group in r .kept .formed .sound .range _ (r .live)
+
+shown-limit-requires : tie.Need-shown-limit-requires
+shown-limit-requires c κs =
+    let m = c .before .before .before in
+    let s = m .before .before .before in
+    limit-range (s .args .t .now) (s .args .g .0) (s .pre .group) (m .s .given .0 .0) _ (c .limit .ensures)
+
+put-limit-requires : tie.Need-put-limit-requires
+put-limit-requires c κs =
+    let l = c .before in
+    let m = l .before .before .before in
+    let s = m .before .before .before in
+    let t = s .args .t .now in
+    omega (
+      arith,
+      ap length (limit-text t (s .args .g .0) (s .pre .group) (m .s .given .0 .0) (l .limit .result) (c .shown-limit .result) (l .limit .ensures) (c .shown-limit .ensures)),
+      length-value t (s .args .g .0) (s .pre .group) (Max (m .s .given .0 .0)),
+      s .pre .room,
+    )
+
+same-length : tie.Need-same-length
+same-length c = search needs
+
+-- cpu.weight
+returns : tie.Need-returns
+returns c =
+    let w = c .before .before in
+    let m = w .before .before .before in
+    let s = m .before .before .before in
+    let t = s .args .t .now in
+    wrote-as
+    (weight-text t (s .args .g .0) (s .pre .group) _ (w .before .weight .ensures) ∙ shows s (sym (m .enum-told .given .1)))
+    (w .put-number .ensures)
+
+same-length-2 : tie.Need-same-length-2
+same-length-2 c = search needs
+
+-- cpu.max
+returns-2 : tie.Need-returns-2
+returns-2 c =
+    let w = c .before .before in
+    let m = w .before .before .before .before in
+    let s = m .before .before .before in
+    let t = s .args .t .now in
+    wrote-as
+    (bandwidth-text t (s .args .g .0) (s .pre .group) _ _ (w .before .before .quota .ensures) (w .before .period .ensures)
+    ∙ shows s (sym (m .enum-told2 .given .1)))
+    (w .put-bandwidth .ensures)
+
+same-length-3 : tie.Need-same-length-3
+same-length-3 c = search needs
+
+-- memory.max or pids.max
+returns-3 : tie.Need-returns-3
+returns-3 c =
+    let w = c .before .before in
+    let l = w .before .before in
+    let m = l .before .before .before in
+    let s = m .before .before .before in
+    let t = s .args .t .now in
+    wrote-as
+    (limit-text t (s .args .g .0) (s .pre .group) _ _ _ (l .limit .ensures) (w .before .shown-limit .ensures)
+    ∙ shows s (sym (m .s .given .1)))
+    (w .put-limit .ensures)
+
+pub put-value-spec : {M : Type 1} → statement M
+put-value-spec =
+    tie.close
+    (tie.spec
+    enum-told
+    weight-requires
+    put-number-requires
+    enum-told-2
+    quota-requires
+    period-requires
+    put-bandwidth-requires
+    enum-known-s
+    limit-requires
+    shown-limit-requires
+    put-limit-requires
+    same-length
+    returns
+    same-length-2
+    returns-2
+    same-length-3
+    returns-3)

@@ -1,0 +1,60 @@
+-- What the calls that deliver a text promise, and what the writers of its parts ask and write: document 01, "What a reader
+-- sees". Assumes nothing.
+use Prim.Native.Nat.{ℕ, _+_, _*_, _≤_}
+use mathlib.Core.Bool.{Bool, true}
+use mathlib.Core.List.{List, [], _∷_}
+use mathlib.Core.Path.{_≡_}
+use lib.Dec.{eqb}
+use lib.ListN.{length}
+use Rattle.model.specs.Functions.{pick}
+use Rattle.model.specs.Sizes.{processes, deepest}
+use Rattle.model.specs.Tree.{Tree, isLive, parents, depths, places}
+use Rattle.model.specs.Text.{bytes, newline, space}
+use Rattle.model.specs.Files.{path}
+use Rattle.model.specs.Calls.{Call, verdict}
+use Rattle.model.specs.Replies.{readAnswer, bufferAfter}
+use Rattle.model.specs.declared.ReadAnswer.{ReadAnswer}
+use Rattle.tree.specs.Layout.{view}
+use Rattle.tree.specs.Kept.{Kept, KeptAt}
+
+-- the answer and the whole reply buffer after call c, whose text is given
+pub record Reading (xs : List ℕ) (c : Call) (text old : List ℕ) (r : ReadAnswer) (new : List ℕ) : Type 0 where
+  pub answer : r ≡ readAnswer (verdict (view xs) c) text
+  pub buffer : new ≡ bufferAfter (verdict (view xs) c) text old
+
+-- no file is longer: a line of cgroup.procs has four bytes at most
+abbrev pub longestText : ℕ
+longestText = processes * 4
+
+-- no path is longer: two digits and a "/" for each group on it
+abbrev pub longestPath : ℕ
+longestPath = deepest * 3
+
+-- a live group, and room for any of its files
+pub record Ready (xs : List ℕ) (g : ℕ) (out : List ℕ) : Type 0 where
+  pub group : KeptAt xs g
+  pub room : longestText ≤ length out
+
+-- a live group so deep, and room for its path
+pub record HasPath (xs : List ℕ) (g deep : ℕ) (out : List ℕ) (at : ℕ) : Type 0 where
+  pub group : KeptAt xs g
+  pub level : deep ≡ depths (view xs) g
+  pub room : at + length (path (parents (view xs)) deep g) ≤ length out
+
+-- a live process, and room for its membership line
+pub record HasLine (xs : List ℕ) (p : ℕ) (out : List ℕ) : Type 0 where
+  pub kept : Kept xs
+  pub live : isLive (places (view xs) p) ≡ true
+  pub room : longestPath + 4 ≤ length out
+
+-- the path as a membership line shows it
+abbrev pub placePath : Tree → ℕ → List ℕ
+placePath t g = pick (eqb g 0) (bytes "/") (path (parents t) deepest g)
+
+-- what a name adds to a list that has come to a place: nothing if it is not listed, and a space before any but the first
+abbrev pub nameAfter : ℕ → Bool → List ℕ → List ℕ
+nameAfter at listed name = pick listed (pick (eqb at 0) name (space ∷ name)) []
+
+-- what ends a list: nothing if it is empty
+abbrev pub endAfter : ℕ → List ℕ
+endAfter at = pick (eqb at 0) [] (newline ∷ [])

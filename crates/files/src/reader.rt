@@ -1,0 +1,122 @@
+// The two calls that deliver a text: a file of a group, and the membership line of a process. Anyone may read.
+ghost use mathlib.Core.Path.{_≡_};
+ghost use Rattle.model.specs.Hierarchy.{factsOf};
+ghost use Rattle.model.specs.Settings.{settingController};
+ghost use Rattle.model.specs.Files.{isPresent, contents, membershipLine};
+ghost use Rattle.model.specs.Calls.{read, membership, fileText};
+ghost use Rattle.text.specs.Write.{Wrote};
+ghost use Rattle.tree.specs.Layout.{view};
+ghost use Rattle.tree.specs.Counters.{HasParent};
+ghost use Rattle.tree.specs.Kept.{Kept};
+ghost use Rattle.files.specs.Reading.{Ready, Reading};
+use super::list::put_controllers;
+use super::list::put_procs;
+use super::list::put_subtree_control;
+use super::path::put_membership;
+use super::value::put_current;
+use super::value::put_events;
+use super::value::put_setting;
+use model::Controller;
+use model::Errno;
+use model::File;
+use model::GroupId;
+use model::ProcessId;
+use model::ReadAnswer;
+use model::Setting;
+use text::name::FileName;
+use text::name::file_named;
+use text::write::deliver;
+use tree::counter::controller_of;
+use tree::layout::GROUPS;
+use tree::layout::PROCESSES;
+use tree::layout::Tree;
+use tree::layout::is_live;
+use tree::layout::is_process;
+use tree::rule::is_on;
+
+// The longest text of a file: 257 process numbers, each a line of four bytes at most.
+const LONGEST_TEXT: usize = 1028;
+
+// The longest membership line: "0::", eight numbers of two digits, each after "/", and a newline.
+const LONGEST_LINE: usize = 28;
+
+fn setting_controller(s: Setting) -> Controller
+    ensures { λ c. ⌜ c ≡ settingController s ⌝ }
+{
+    match s {
+        Setting::CpuWeight => Controller::Cpu,
+        Setting::CpuMax => Controller::Cpu,
+        Setting::Max(r) => controller_of(r),
+    }
+}
+
+// Whether a group has the file.
+fn is_present(t: &Tree, g: GroupId, file: File) -> bool
+    requires { ⌜ HasParent (now t) (g .0) ⌝ }
+    ensures { λ r. ⌜ r ≡ isPresent (view (now (t .entry))) (g .0) file ⌝ }
+{
+    match file {
+        File::Procs => true,
+        File::Controllers => true,
+        File::SubtreeControl => true,
+        File::Events => g.0 != 0,
+        File::Current(s) => is_on(t, controller_of(s), g),
+        File::Value(s) => is_on(t, setting_controller(s), g),
+    }
+}
+
+// The text of a file.
+fn render(t: &Tree, g: GroupId, file: File, out: &mut [u8]) -> usize
+    requires { ⌜ Ready (now t) (g .0) (now out) ⌝ }
+    ensures { λ r. ⌜ Wrote (now (out .entry)) 0 (contents (factsOf (view (now (t .entry)))) (g .0) file) (now (out .exit)) r ⌝ }
+{
+    match file {
+        File::Procs => put_procs(t, g, out),
+        File::Controllers => put_controllers(t, g, out),
+        File::SubtreeControl => put_subtree_control(t, g, out),
+        File::Events => put_events(t, g, out),
+        File::Current(s) => put_current(t, g, s, out),
+        File::Value(s) => put_setting(t, g, s, out),
+    }
+}
+
+// A file of a group. 22: the number is out of range. 2: the group is not live, or has no such file. 28: the reply is shorter
+// than the text. A refusal leaves the reply as it was.
+pub fn read(tree: &Tree, group: GroupId, file: &[u8], reply: &mut [u8]) -> ReadAnswer
+    requires { ⌜ Kept (now tree) ⌝ }
+    ensures { λ r. ⌜ Reading (now (tree .entry)) (read (group .0) (now (file .entry)) (now (reply .entry))) (fileText (factsOf (view (now (tree .entry)))) (group .0) (now (file .entry))) (now (reply .entry)) r (now (reply .exit)) ⌝ }
+{
+    if GROUPS <= group.0 {
+        return ReadAnswer::Refused(Errno::Einval);
+    }
+    if !is_live(tree, group) {
+        return ReadAnswer::Refused(Errno::Enoent);
+    }
+    let named = file_named(file);
+    let FileName::Of(found) = named else {
+        return ReadAnswer::Refused(Errno::Enoent);
+    };
+    if !is_present(tree, group, found) {
+        return ReadAnswer::Refused(Errno::Enoent);
+    }
+    let mut scratch = [0u8; LONGEST_TEXT];
+    let end = render(tree, group, found, &mut scratch);
+    deliver(reply, &scratch[..end])
+}
+
+// The membership line of a process. 3: it is not live. 28: the reply is shorter than the line. A refusal leaves the reply as
+// it was.
+pub fn membership(tree: &Tree, process: ProcessId, reply: &mut [u8]) -> ReadAnswer
+    requires { ⌜ Kept (now tree) ⌝ }
+    ensures { λ r. ⌜ Reading (now (tree .entry)) (membership (process .0) (now (reply .entry))) (membershipLine (view (now (tree .entry))) (process .0)) (now (reply .entry)) r (now (reply .exit)) ⌝ }
+{
+    if PROCESSES <= process.0 {
+        return ReadAnswer::Refused(Errno::Esrch);
+    }
+    if !is_process(tree, process) {
+        return ReadAnswer::Refused(Errno::Esrch);
+    }
+    let mut scratch = [0u8; LONGEST_LINE];
+    let end = put_membership(tree, process, &mut scratch);
+    deliver(reply, &scratch[..end])
+}

@@ -1,0 +1,104 @@
+// The files that are one value: whether a group is populated, the counts, and the settings. No pass over the tree: the
+// counts are its running sums.
+ghost use mathlib.Core.Bool.{true};
+ghost use mathlib.Core.Option.{some};
+ghost use mathlib.Core.Path.{_≡_};
+ghost use Prim.Native.Nat.{_<_, _≤_};
+ghost use lib.ListN.{length};
+ghost use Rattle.model.specs.Tree.{settingsAt};
+ghost use Rattle.model.specs.Hierarchy.{factsOf};
+ghost use Rattle.model.specs.Settings.{bandwidth, toFigure, mapLimit, figureIn, largest, shown, valueText};
+ghost use Rattle.model.specs.Files.{contents};
+ghost use Rattle.model.specs.declared.File.{File};
+ghost use Rattle.text.specs.Write.{Wrote};
+ghost use Rattle.tree.specs.Layout.{view};
+ghost use Rattle.files.specs.Reading.{Ready};
+use super::list::put_line;
+use model::GroupId;
+use model::Limit;
+use model::Resource;
+use model::Setting;
+use text::write::put_byte;
+use text::write::put_limit;
+use text::write::put_number;
+use text::write::put_text;
+use tree::layout::Tree;
+use tree::layout::limit;
+use tree::layout::period;
+use tree::layout::quota;
+use tree::layout::sum;
+use tree::layout::weight;
+
+const PAGE_BYTES: u64 = 4096;
+
+// An amount of a resource, as its files show it.
+fn to_figure(r: Resource, n: u64) -> u64
+    requires { ⌜ toFigure r n < 18446744073709551616 ⌝ }
+    ensures { λ k. ⌜ k ≡ toFigure r n ⌝ }
+{
+    match r {
+        Resource::Pages => n * PAGE_BYTES,
+        Resource::Processes => n,
+    }
+}
+
+// A limit of a resource, as its file shows it.
+fn shown_limit(r: Resource, l: Limit) -> Limit
+    requires { ⌜ figureIn 0 (largest r) (mapLimit (toFigure r) l) ≡ true ⌝ }
+    ensures { λ k. ⌜ k ≡ mapLimit (toFigure r) l ⌝ }
+{
+    let Limit::Figure(n) = l else {
+        return Limit::NoLimit;
+    };
+    Limit::Figure(to_figure(r, n))
+}
+
+// Whether a live process is inside the group.
+pub fn put_events(t: &Tree, g: GroupId, out: &mut [u8]) -> usize
+    requires { ⌜ Ready (now t) (g .0) (now out) ⌝ }
+    ensures { λ r. ⌜ Wrote (now (out .entry)) 0 (contents (factsOf (view (now (t .entry)))) (g .0) File.Events) (now (out .exit)) r ⌝ }
+{
+    if sum(t, g, Resource::Processes) == 0 {
+        return put_text(out, 0, b"populated 0\n");
+    }
+    put_text(out, 0, b"populated 1\n")
+}
+
+// What stands inside the group.
+pub fn put_current(t: &Tree, g: GroupId, s: Resource, out: &mut [u8]) -> usize
+    requires { ⌜ Ready (now t) (g .0) (now out) ⌝ }
+    ensures { λ r. ⌜ Wrote (now (out .entry)) 0 (contents (factsOf (view (now (t .entry)))) (g .0) (File.Current s)) (now (out .exit)) r ⌝ }
+{
+    let figure = to_figure(s, sum(t, g, s));
+    put_line(out, 0, figure)
+}
+
+// Both words of cpu.max.
+fn put_bandwidth(out: &mut [u8], quota: Limit, period: u64) -> usize
+    requires { ⌜ length (valueText (bandwidth quota (some period))) ≤ length (now out) ⌝ }
+    ensures { λ r. ⌜ Wrote (now (out .entry)) 0 (valueText (bandwidth quota (some period))) (now (out .exit)) r ⌝ }
+{
+    let word = put_limit(out, 0, quota);
+    let space = put_byte(out, word, b' ');
+    put_number(out, space, period)
+}
+
+// The value of a setting.
+fn put_value(t: &Tree, g: GroupId, s: Setting, out: &mut [u8]) -> usize
+    requires { ⌜ Ready (now t) (g .0) (now out) ⌝ }
+    ensures { λ r. ⌜ Wrote (now (out .entry)) 0 (valueText (shown s (settingsAt (view (now (t .entry))) (g .0)))) (now (out .exit)) r ⌝ }
+{
+    match s {
+        Setting::CpuWeight => put_number(out, 0, weight(t, g)),
+        Setting::CpuMax => put_bandwidth(out, quota(t, g), period(t, g)),
+        Setting::Max(r) => put_limit(out, 0, shown_limit(r, limit(t, g, r))),
+    }
+}
+
+pub fn put_setting(t: &Tree, g: GroupId, s: Setting, out: &mut [u8]) -> usize
+    requires { ⌜ Ready (now t) (g .0) (now out) ⌝ }
+    ensures { λ r. ⌜ Wrote (now (out .entry)) 0 (contents (factsOf (view (now (t .entry)))) (g .0) (File.Value s)) (now (out .exit)) r ⌝ }
+{
+    let end = put_value(t, g, s, out);
+    put_byte(out, end, 10)
+}
