@@ -1,0 +1,143 @@
+-- Whatever runs as the public contracts promise is a run of the definitions, so demand 3 holds of it. Assumes nothing.
+use Prim.Native.Nat.{ℕ}
+use mathlib.Core.List.{List, [], _∷_, _++_, nil≢cons, head-eq-of-cons-eq, tail-eq-of-cons-eq}
+use mathlib.Core.Path.{_≡_, refl, ap, ap₂, sym, _∙_, subst, subst₂}
+use Rattle.model.specs.Checks.{answerNumber}
+use Rattle.model.specs.Tree.{Tree, groupOf}
+use Rattle.model.specs.Hierarchy.{factsOf}
+use Rattle.model.specs.Calls.{Call, charge, fork, read, membership, verdict}
+use Rattle.model.specs.Effects.{effect, step, run}
+use Rattle.model.specs.Effects as F
+use Rattle.model.specs.Replies.{chargeAnswer, forkAnswer, roomNumber, readAnswer, readNumber, reply, replyBy}
+use Rattle.model.specs.Book.{Book, Entry, freshBook, fed, bookStep}
+use Rattle.model.specs.Demands.{log, treeAfter, bookAfter, Demand3, Alike, Bounded, NoneOver}
+use Rattle.model.specs.declared.Resource.the-variants.{Pages, Processes}
+use Rattle.model.specs.declared.Answer.{Answer}
+use Rattle.model.specs.declared.ReadAnswer.{ReadAnswer}
+use Rattle.model.proofs.Steps.{step-accepted, step-refused, by-verdict}
+use Rattle.model.proofs.Books.{read-number, reply-number, tree-after-more}
+use Rattle.model.proofs.Demands.{demands}
+use Rattle.tree.specs.Layout.{view}
+use Rattle.tree.specs.Kept.{Kept, Fresh}
+use Rattle.tree.specs.Calling.{Calling}
+use Rattle.demands.specs.Runs.{Promised, plain, charged, forked, readFile, readMembership, Runs, fresh, next, bookOf, Kept3}
+
+-- A promise is a step of the definitions.
+record Meant (xs : List ℕ) (c : Call) (n : ℕ) (ys : List ℕ) : Type 0 where
+  number : n ≡ reply (view xs) c .number
+  tree : view ys ≡ step (view xs) c
+  kept : Kept xs → Kept ys
+
+-- a read changes nothing, accepted or not
+read-step : (t : Tree) (g : ℕ) (file buffer : List ℕ) → t ≡ step t (read g file buffer)
+unfolding effect
+read-step t g file buffer =
+    by-verdict t (read g file buffer)
+    (λ e. sym (step-accepted t (read g file buffer) e))
+    (λ x e. sym (step-refused t (read g file buffer) x e))
+
+membership-step : (t : Tree) (p : ℕ) (buffer : List ℕ) → t ≡ step t (membership p buffer)
+unfolding effect
+membership-step t p buffer =
+    by-verdict t (membership p buffer)
+    (λ e. sym (step-accepted t (membership p buffer) e))
+    (λ x e. sym (step-refused t (membership p buffer) x e))
+
+meant : {xs ys : List ℕ} {c : Call} {n : ℕ} → Promised xs c n ys → Meant xs c n ys
+unfolding reply replyBy
+meant {xs} {c = c} (plain k) =
+    record { number = ap answerNumber (k .answer) ∙ sym (reply-number (view xs) c); tree = k .tree; kept = λ _. k .kept }
+meant (charged k) = record { number = ap (roomNumber Pages) (k .answer); tree = k .tree; kept = λ _. k .kept }
+meant (forked k) = record { number = ap (roomNumber Processes) (k .answer); tree = k .tree; kept = λ _. k .kept }
+meant {xs} (readFile {old = buffer} {text = text} {g = g} {file = file} k) =
+    record {
+      number = ap readNumber (k .answer) ∙ read-number (verdict (view xs) (read g file buffer)) text ∙ sym (reply-number (view xs) (read g file buffer));
+      tree = read-step (view xs) g file buffer;
+      kept = λ h. h;
+    }
+meant {xs} (readMembership {old = buffer} {text = text} {p = p} k) =
+    record {
+      number = ap readNumber (k .answer) ∙ read-number (verdict (view xs) (membership p buffer)) text ∙ sym (reply-number (view xs) (membership p buffer));
+      tree = membership-step (view xs) p buffer;
+      kept = λ h. h;
+    }
+
+-- A run of the code is a run of the definitions.
+record Followed (m : ℕ) (es : List Entry) (xs : List ℕ) : Type 0 where
+  calls : List Call
+  entries : es ≡ log (F.fresh m) calls
+  tree : view xs ≡ treeAfter m calls
+  kept : Kept xs
+
+log-more : (t : Tree) (cs : List Call) (c : Call)
+    → log t cs ++ (record { call = c; number = reply (run t cs) c .number } ∷ []) ≡ log t (cs ++ (c ∷ []))
+unfolding log run
+log-more t [] c = refl
+log-more t (x ∷ xs) c = ap (λ es. record { call = x; number = reply t x .number } ∷ es) (log-more (step t x) xs c)
+
+followed : {m : ℕ} {es : List Entry} {xs : List ℕ} → Runs m es xs → Followed m es xs
+unfolding log run
+followed (fresh f) = record { calls = []; entries = refl; tree = f .tree; kept = f .kept }
+followed {m} (next {c = c} {n = n} r p) =
+    let f = followed r in
+    let w = meant p in
+    let number : n ≡ reply (treeAfter m (f .calls)) c .number = w .number ∙ ap (λ t. reply t c .number) (f .tree) in
+    record {
+      calls = f .calls ++ (c ∷ []);
+      entries =
+          ap₂ (λ (es : List Entry) (k : ℕ). es ++ (record { call = c; number = k } ∷ [])) (f .entries) number
+          ∙ log-more (F.fresh m) (f .calls) c;
+      tree = w .tree ∙ ap (λ t. step t c) (f .tree) ∙ sym (tree-after-more m (f .calls) c);
+      kept = w .kept (f .kept);
+    }
+
+-- An entry of the log is a call of the list.
+record Found (t : Tree) (cs : List Call) (c : Call) (n : ℕ) (before : List Entry) : Type 0 where
+  earlier : List Call
+  later : List Call
+  calls : cs ≡ earlier ++ (c ∷ later)
+  entries : before ≡ log t earlier
+  number : n ≡ reply (run t earlier) c .number
+
+found : (before after : List Entry) (t : Tree) (cs : List Call) (c : Call) (n : ℕ)
+    → log t cs ≡ before ++ (record { call = c; number = n } ∷ after) → Found t cs c n before
+unfolding log run
+found [] after t [] c n e = absurd (nil≢cons e)
+found [] after t (x ∷ xs) c n e =
+    let h : _≡_ {A = Entry} (record { call = x; number = reply t x .number }) (record { call = c; number = n }) = head-eq-of-cons-eq e in
+    let d : x ≡ c = ap (λ (y : Entry). y .call) h in
+    record {
+      earlier = [];
+      later = xs;
+      calls = ap (λ y. y ∷ xs) d;
+      entries = refl;
+      number = sym (ap (λ (y : Entry). y .number) h) ∙ ap (λ y. reply t y .number) d;
+    }
+found (b ∷ bs) after t [] c n e = absurd (nil≢cons e)
+found (b ∷ bs) after t (x ∷ xs) c n e =
+    let h : record { call = x; number = reply t x .number } ≡ b = head-eq-of-cons-eq e in
+    let f = found bs after (step t x) xs c n (tail-eq-of-cons-eq e) in
+    record {
+      earlier = x ∷ f .earlier;
+      later = f .later;
+      calls = ap (λ ys. x ∷ ys) (f .calls);
+      entries = ap₂ (λ (y : Entry) (ys : List Entry). y ∷ ys) (sym h) (f .entries);
+      number = f .number;
+    }
+
+pub demand-3-of-the-code : {m : ℕ} {es : List Entry} {xs : List ℕ} → Runs m es xs → Kept3 m es xs
+demand-3-of-the-code {m} {es} {xs} r =
+    let f = followed r in
+    let d : Demand3 m (f .calls) = demands .third m (f .calls) in
+    let book : bookAfter m (f .calls) ≡ bookOf m es = ap (fed (freshBook m)) (sym (f .entries)) in
+    record {
+      kept = f .kept;
+      alike = subst₂ (λ (t : Tree) (b : Book). Alike t b) (sym (f .tree)) book (d .alike);
+      bounded = subst Bounded book (d .bounded);
+      accepted = λ q p c before after k e.
+          let g = found before after (F.fresh m) (f .calls) c 0 (sym (f .entries) ∙ e) in
+          let b : bookAfter m (g .earlier ++ (c ∷ [])) ≡ bookOf m (before ++ (record { call = c; number = 0 } ∷ [])) =
+          ap (fed (freshBook m))
+          (sym (ap₂ (λ (es : List Entry) (k : ℕ). es ++ (record { call = c; number = k } ∷ [])) (g .entries) (g .number) ∙ log-more (F.fresh m) (g .earlier) c)) in
+          subst (λ (x : Book). NoneOver q x (groupOf (x .place p))) b (d .accepted q p c (g .earlier) (g .later) k (g .calls) (sym (g .number)));
+    }
