@@ -1,0 +1,6 @@
+pub mod FlagLaws
+pub mod VetLaws
+pub mod WroteLaws
+pub mod ResetLaws
+pub mod ValueLaws
+pub mod StoredLaws

@@ -1,0 +1,138 @@
+-- The stores of the two calls leave what the definitions say: neither changes an amount. Assumes nothing.
+use Prim.Native.Nat.{ℕ}
+use mathlib.Core.Bool.{true}
+use mathlib.Core.List.{List}
+use mathlib.Core.Option.{Option, none, some}
+use mathlib.Core.Path.{_≡_, refl, ap, ap₂, sym, _∙_}
+use Rattle.model.specs.Functions.{upd}
+use Rattle.model.specs.Tree.{Tree, Core, Group, Place, Controls, withSet, cores, lives, places}
+use Rattle.model.specs.Hierarchy.{childOf, ownPages, amount}
+use Rattle.model.specs.Settings.{SettingValue}
+use Rattle.model.specs.Rules.{leaving}
+use Rattle.model.specs.Checks.{Pass}
+use Rattle.model.specs.Calls.{Call, writeControl, writeSetting, lineValue, checks, verdict}
+use Rattle.model.specs.Effects.{newSet, controlled, written, effect}
+use Rattle.model.specs.declared.Resource.{Resource}
+use Rattle.model.specs.declared.Resource.the-variants.{Pages, Processes}
+use Rattle.model.specs.declared.Errno.{Errno}
+use Rattle.model.specs.declared.Answer.{Answer}
+use Rattle.model.specs.declared.Answer.the-variants.{Done, Refused}
+use Rattle.model.proofs.FunctionLaws.{split, upd-keeps}
+use Rattle.model.proofs.AmountLaws.{usage-same, population-same}
+use Rattle.model.proofs.Steps.{passed}
+use Rattle.model.proofs.ControlPreservation.{reset-child, reset-other, live-after-control, parent-after-control}
+use Rattle.tree.specs.Layout.{view}
+use Rattle.tree.specs.Changes.{GroupRow, Wrote}
+use Rattle.tree.specs.Kept.{Kept}
+use Rattle.tree.specs.Calling.{Calling}
+use Rattle.tree.proofs.CallLaws.{call-refused, call-done, applied-wrote}
+use Rattle.text.specs.Value.{readingOf}
+use Rattle.text.specs.declared.value.Reading.{Reading}
+use Rattle.control.specs.Stores.{changedAt}
+use Rattle.control.specs.Values.{told, Settable}
+use Rattle.control.proofs.WroteLaws.{wrote-as}
+use Rattle.control.proofs.ValueLaws.{told-value}
+
+-- a refusal by the vetting leaves the words as they are
+pub call-stays : (xs : List ℕ) → Kept xs → (c : Call) (r : Answer) (e : Errno) → r ≡ verdict (view xs) c → r ≡ Refused e
+    → Calling xs xs c (verdict (view xs) c) r
+call-stays xs k c r e a f = call-refused xs k c _ r e (sym a ∙ f) a
+
+-- amounts go by parents, own pages and places
+amount-same : (s s′ : ℕ → Core) (pl : ℕ → Place) → ((g : ℕ) → s′ g .parent ≡ s g .parent)
+    → ((g : ℕ) → ownPages (s′ g) ≡ ownPages (s g)) → (r : Resource) (a : ℕ) → amount s′ pl r a ≡ amount s pl r a
+amount-same s s′ pl e f Pages a = usage-same s s′ e f a
+amount-same s s′ pl e f Processes a = population-same s s′ pl e a
+
+-- ---- a setting
+
+module _ (t : Tree) (g : ℕ) (o : Option SettingValue) where
+  abbrev set-in : ℕ → Group
+  set-in = upd (t .group) g (written o (t .group g))
+
+  live-after-setting : (k : ℕ) → set-in k .core .live ≡ lives t k
+  live-after-setting = upd-keeps (λ v. v .core .live) (t .group) g _ (go o)
+    where
+      go : (o : Option SettingValue) → written o (t .group g) .core .live ≡ lives t g
+      go none = refl
+      go (some x) = refl
+
+  amount-after-setting : (r : Resource) (a : ℕ) → amount (λ k. set-in k .core) (places t) r a ≡ amount (cores t) (places t) r a
+  amount-after-setting =
+      amount-same (cores t) (λ k. set-in k .core) (places t)
+      (upd-keeps (λ v. v .core .parent) (t .group) g _ (parent o)) (upd-keeps (λ v. ownPages (v .core)) (t .group) g _ (own o))
+    where
+      parent : (o : Option SettingValue) → written o (t .group g) .core .parent ≡ t .group g .core .parent
+      parent none = refl
+      parent (some x) = refl
+
+      own : (o : Option SettingValue) → ownPages (written o (t .group g) .core) ≡ ownPages (t .group g .core)
+      own none = refl
+      own (some x) = refl
+
+module _ (xs : List ℕ) (k : Kept xs) (user g : ℕ) (file line : List ℕ)
+    (v : verdict (view xs) (writeSetting user g file line) ≡ Done)
+    (value : Reading) (e : value ≡ readingOf (lineValue file line)) where
+  setting-live : lives (view xs) g ≡ true
+  unfolding checks Pass
+  setting-live = let c = passed (view xs) (writeSetting user g file line) v in (search)
+
+  setting-told : told value ≡ lineValue file line
+  unfolding checks Pass
+  setting-told =
+      let c = passed (view xs) (writeSetting user g file line) v in
+      ap told e ∙ told-value (lineValue file line) (search)
+
+  pub settable : Settable xs g value
+  unfolding checks Pass
+  settable =
+      let c = passed (view xs) (writeSetting user g file line) v in
+      record { at = record { kept = k; live = setting-live }; within = rw setting-told (search) }
+
+  pub setting-done : (ys : List ℕ) → Wrote xs ys (changedAt (view xs) g (written (told value)))
+      → Calling xs ys (writeSetting user g file line) (verdict (view xs) (writeSetting user g file line)) Done
+  unfolding effect
+  setting-done ys w =
+      let o = lineValue file line in
+      call-done xs k (writeSetting user g file line) v ys _ _
+      (applied-wrote xs k (writeSetting user g file line) v ys
+      (wrote-as (ap (λ x. changedAt (view xs) g (written x)) setting-told) w)
+      (λ h l. sym (live-after-setting (view xs) g o h) ∙ l) (amount-after-setting (view xs) g o))
+      (sym v)
+
+-- ---- a control line
+
+module _ (t : Tree) (g : ℕ) (set gone : Controls) where
+  own-after-control : (k : ℕ) → ownPages (controlled t g set gone .group k .core) ≡ ownPages (cores t k)
+  own-after-control k =
+      let v : Group = upd (t .group) g (withSet set (t .group g)) k in
+      split (childOf g k (cores t k))
+      (λ y. ap (λ (x : Group). ownPages (x .core)) (reset-child t g gone k v y))
+      (λ n. ap (λ (x : Group). ownPages (x .core)) (reset-other t g gone k v n))
+      ∙ upd-keeps (λ x. ownPages (x .core)) (t .group) g _ refl k
+
+  amount-after-control : (r : Resource) (a : ℕ)
+      → amount (cores (controlled t g set gone)) (places t) r a ≡ amount (cores t) (places t) r a
+  amount-after-control =
+      amount-same (cores t) (cores (controlled t g set gone)) (places t)
+      (λ k. ap (λ f. f k) (parent-after-control t g set gone)) own-after-control
+
+module _ (xs : List ℕ) (k : Kept xs) (user g : ℕ) (line : List ℕ) (v : verdict (view xs) (writeControl user g line) ≡ Done) where
+  pub control-row : GroupRow xs g
+  unfolding checks Pass
+  control-row =
+      let c = passed (view xs) (writeControl user g line) v in
+      record { long = k .long; low = k .formed .sound .range g (search) }
+
+  pub control-done : (ys : List ℕ) (set gone : Controls) → set ≡ newSet (view xs) g line → gone ≡ leaving (view xs) g line
+      → Wrote xs ys (controlled (view xs) g set gone)
+      → Calling xs ys (writeControl user g line) (verdict (view xs) (writeControl user g line)) Done
+  unfolding effect
+  control-done ys set gone e f w =
+      let new = newSet (view xs) g line in
+      let left = leaving (view xs) g line in
+      call-done xs k (writeControl user g line) v ys _ _
+      (applied-wrote xs k (writeControl user g line) v ys
+      (wrote-as (ap₂ (controlled (view xs) g) e f) w)
+      (λ h l. sym (ap (λ p. p h) (live-after-control (view xs) g new left)) ∙ l) (amount-after-control (view xs) g new left))
+      (sym v)

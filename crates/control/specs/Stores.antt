@@ -1,0 +1,39 @@
+-- What the stores of the two calls make of a group and of the tree: document 01, "A controller that leaves resets its
+-- settings in all children." Assumes nothing.
+use Prim.Native.Nat.{ℕ, _<_}
+use mathlib.Core.Bool.{Bool, true}
+use mathlib.Core.List.{List}
+use mathlib.Core.Path.{_≡_}
+use lib.ListN.{length}
+use Rattle.model.specs.Functions.{pick}
+use Rattle.model.specs.Sizes.{groups}
+use Rattle.model.specs.Tree.{Tree, Group, Controls, defaultCpu, withSettings, withLimit, atGroup, lives}
+use Rattle.model.specs.Effects.{resetChild}
+use Rattle.model.specs.declared.Resource.{Resource}
+use Rattle.model.specs.declared.Limit.the-variants.{NoLimit}
+use Rattle.tree.specs.Layout.{words, view}
+
+-- other groups, and all else as in t
+abbrev pub withGroups : Tree → (ℕ → Group) → Tree
+withGroups t f = record { machine = t .machine; group = f; process = t .process }
+
+-- one group changed by f
+abbrev pub changedAt : Tree → ℕ → (Group → Group) → Tree
+changedAt t k f = atGroup t k (f (t .group k))
+
+-- a group with the settings of one controller at their defaults, where it is gone
+abbrev pub cpuReset : Bool → Group → Group
+cpuReset gone v = withSettings (record { limit = v .core .limit; cpu = pick gone defaultCpu (v .cpu) }) v
+
+abbrev pub limitReset : Resource → Bool → Group → Group
+limitReset r gone v =
+    withSettings (record { limit = withLimit r (pick gone NoLimit (v .core .limit r)) (v .core .limit); cpu = v .cpu }) v
+
+-- words whose live groups have numbers in range
+pub record Ranged (xs : List ℕ) : Type 0 where
+  pub long : length xs ≡ words
+  pub range : (k : ℕ) → lives (view xs) k ≡ true → k < groups
+
+-- the settings of what is gone from g reset in all its children
+abbrev pub childrenReset : Tree → ℕ → Controls → Tree
+childrenReset t g gone = withGroups t (λ k. resetChild t g gone k (t .group k))

@@ -1,0 +1,168 @@
+// What a control line does to each controller of a group's set, as one flag for each; one function for each test.
+ghost use mathlib.Core.Path.{_≡_};
+ghost use Prim.Native.Nat.{_<_};
+ghost use Rattle.model.specs.Sizes.{groups};
+ghost use Rattle.model.specs.Control.{anyController};
+ghost use Rattle.text.specs.Control.{askOf};
+ghost use Rattle.tree.specs.Layout.{view};
+ghost use Rattle.tree.specs.Counters.{HasParent};
+ghost use Rattle.control.specs.Flags.{setAt, absentAt, joinsAt, leavesAt, heldAt, flagOf, forEach};
+use model::Controller;
+use model::GroupId;
+use text::control::Wish;
+use text::control::Wishes;
+use tree::layout::Tree;
+use tree::layout::has;
+use tree::rule::held_by_child;
+use tree::rule::is_available;
+
+// A flag for each controller.
+pub struct Flags {
+    pub cpu: bool,
+    pub memory: bool,
+    pub pids: bool,
+}
+
+// Whether some flag is set.
+pub fn is_any(f: Flags) -> bool
+    ensures { λ r. ⌜ r ≡ anyController (flagOf f) ⌝ }
+{
+    let cpu = f.cpu;
+    if cpu {
+        return true;
+    }
+    let memory = f.memory;
+    if memory {
+        return true;
+    }
+    f.pids
+}
+
+// Whether a controller is in the set once the wish is granted.
+fn is_set_after(t: &Tree, g: GroupId, c: Controller, wish: Wish) -> bool
+    requires { ⌜ g .0 < groups ⌝ }
+    ensures { λ r. ⌜ r ≡ setAt (view (now (t .entry))) (g .0) c (askOf wish) ⌝ }
+{
+    match wish {
+        Wish::Keep => has(t, g, c),
+        Wish::Enable => true,
+        Wish::Disable => false,
+    }
+}
+
+// Whether a controller is wanted that the group may not have.
+fn is_absent(t: &Tree, g: GroupId, c: Controller, wish: Wish) -> bool
+    requires { ⌜ HasParent (now t) (g .0) ⌝ }
+    ensures { λ r. ⌜ r ≡ absentAt (view (now (t .entry))) (g .0) c (askOf wish) ⌝ }
+{
+    match wish {
+        Wish::Keep => false,
+        Wish::Enable => !is_available(t, c, g),
+        Wish::Disable => false,
+    }
+}
+
+// Whether a controller joins the set, or leaves it.
+fn is_joining(t: &Tree, g: GroupId, c: Controller, wish: Wish) -> bool
+    requires { ⌜ g .0 < groups ⌝ }
+    ensures { λ r. ⌜ r ≡ joinsAt (view (now (t .entry))) (g .0) c (askOf wish) ⌝ }
+{
+    match wish {
+        Wish::Keep => false,
+        Wish::Enable => !has(t, g, c),
+        Wish::Disable => false,
+    }
+}
+
+fn is_leaving(t: &Tree, g: GroupId, c: Controller, wish: Wish) -> bool
+    requires { ⌜ g .0 < groups ⌝ }
+    ensures { λ r. ⌜ r ≡ leavesAt (view (now (t .entry))) (g .0) c (askOf wish) ⌝ }
+{
+    match wish {
+        Wish::Keep => false,
+        Wish::Enable => false,
+        Wish::Disable => has(t, g, c),
+    }
+}
+
+// Whether a controller leaves that a child has in its set. The children are asked only where it leaves.
+fn is_held(t: &Tree, g: GroupId, c: Controller, wish: Wish) -> bool
+    requires { ⌜ g .0 < groups ⌝ }
+    ensures { λ r. ⌜ r ≡ heldAt (view (now (t .entry))) (g .0) c (askOf wish) ⌝ }
+{
+    if !is_leaving(t, g, c, wish) {
+        return false;
+    }
+    held_by_child(t, g, c)
+}
+
+// Each test for each controller.
+pub fn set_after(t: &Tree, g: GroupId, wishes: Wishes) -> Flags
+    requires { ⌜ g .0 < groups ⌝ }
+    ensures { λ r. ⌜ r ≡ forEach (setAt (view (now (t .entry))) (g .0)) wishes ⌝ }
+{
+    let cpu = wishes.cpu;
+    let memory = wishes.memory;
+    let pids = wishes.pids;
+    Flags {
+        cpu: is_set_after(t, g, Controller::Cpu, cpu),
+        memory: is_set_after(t, g, Controller::Memory, memory),
+        pids: is_set_after(t, g, Controller::Pids, pids),
+    }
+}
+
+pub fn absent(t: &Tree, g: GroupId, wishes: Wishes) -> Flags
+    requires { ⌜ HasParent (now t) (g .0) ⌝ }
+    ensures { λ r. ⌜ r ≡ forEach (absentAt (view (now (t .entry))) (g .0)) wishes ⌝ }
+{
+    let cpu = wishes.cpu;
+    let memory = wishes.memory;
+    let pids = wishes.pids;
+    Flags {
+        cpu: is_absent(t, g, Controller::Cpu, cpu),
+        memory: is_absent(t, g, Controller::Memory, memory),
+        pids: is_absent(t, g, Controller::Pids, pids),
+    }
+}
+
+pub fn joining(t: &Tree, g: GroupId, wishes: Wishes) -> Flags
+    requires { ⌜ g .0 < groups ⌝ }
+    ensures { λ r. ⌜ r ≡ forEach (joinsAt (view (now (t .entry))) (g .0)) wishes ⌝ }
+{
+    let cpu = wishes.cpu;
+    let memory = wishes.memory;
+    let pids = wishes.pids;
+    Flags {
+        cpu: is_joining(t, g, Controller::Cpu, cpu),
+        memory: is_joining(t, g, Controller::Memory, memory),
+        pids: is_joining(t, g, Controller::Pids, pids),
+    }
+}
+
+pub fn leaving(t: &Tree, g: GroupId, wishes: Wishes) -> Flags
+    requires { ⌜ g .0 < groups ⌝ }
+    ensures { λ r. ⌜ r ≡ forEach (leavesAt (view (now (t .entry))) (g .0)) wishes ⌝ }
+{
+    let cpu = wishes.cpu;
+    let memory = wishes.memory;
+    let pids = wishes.pids;
+    Flags {
+        cpu: is_leaving(t, g, Controller::Cpu, cpu),
+        memory: is_leaving(t, g, Controller::Memory, memory),
+        pids: is_leaving(t, g, Controller::Pids, pids),
+    }
+}
+
+pub fn held(t: &Tree, g: GroupId, wishes: Wishes) -> Flags
+    requires { ⌜ g .0 < groups ⌝ }
+    ensures { λ r. ⌜ r ≡ forEach (heldAt (view (now (t .entry))) (g .0)) wishes ⌝ }
+{
+    let cpu = wishes.cpu;
+    let memory = wishes.memory;
+    let pids = wishes.pids;
+    Flags {
+        cpu: is_held(t, g, Controller::Cpu, cpu),
+        memory: is_held(t, g, Controller::Memory, memory),
+        pids: is_held(t, g, Controller::Pids, pids),
+    }
+}

@@ -1,0 +1,93 @@
+// Writes to cgroup.subtree_control.
+ghost use mathlib.Core.Path.{_≡_};
+ghost use Prim.Native.Nat.{_<_};
+ghost use Rattle.model.specs.Sizes.{groups};
+ghost use Rattle.model.specs.Calls.{verdict, writeControl};
+ghost use Rattle.tree.specs.Layout.{view};
+ghost use Rattle.tree.specs.Kept.{Kept};
+ghost use Rattle.tree.specs.Calling.{Calling};
+ghost use Rattle.control.specs.Flags.{asksOf, joinsPopulated};
+use super::flags::absent;
+use super::flags::held;
+use super::flags::is_any;
+use super::flags::joining;
+use super::flags::leaving;
+use super::flags::set_after;
+use super::reset::set_and_reset;
+use model::Answer;
+use model::Errno;
+use model::GroupId;
+use text::control::Wishes;
+use text::control::asks;
+use text::control::has_bad_word;
+use text::line::is_too_long;
+use tree::layout::GROUPS;
+use tree::layout::Tree;
+use tree::layout::is_live;
+use tree::rule::has_process;
+use tree::rule::may_write;
+
+// The inner-process rule: whether a controller joins the set of a group other than the root that holds a process.
+fn joins_populated(t: &Tree, g: GroupId, wishes: Wishes) -> bool
+    requires { ⌜ g .0 < groups ⌝ }
+    ensures { λ r. ⌜ r ≡ joinsPopulated (view (now (t .entry))) (g .0) (asksOf wishes) ⌝ }
+{
+    if g.0 == 0 {
+        return false;
+    }
+    if !has_process(t, g) {
+        return false;
+    }
+    is_any(joining(t, g, wishes))
+}
+
+// Einval: no group number. Enoent: not live. Eacces: may not write the group. Einval: a line that is too long, or a bad
+// word. Enoent: a wanted controller not available. Ebusy: a controller that leaves is in a child's set, or the
+// inner-process rule.
+fn vet_control(t: &Tree, user: u32, g: GroupId, line: &[u8]) -> Answer
+    requires { ⌜ Kept (now t) ⌝ }
+    ensures { λ r. ⌜ r ≡ verdict (view (now (t .entry))) (writeControl user (g .0) (now (line .entry))) ⌝ }
+{
+    if GROUPS <= g.0 {
+        return Answer::Refused(Errno::Einval);
+    }
+    if !is_live(t, g) {
+        return Answer::Refused(Errno::Enoent);
+    }
+    if !may_write(t, user, g) {
+        return Answer::Refused(Errno::Eacces);
+    }
+    if is_too_long(line) {
+        return Answer::Refused(Errno::Einval);
+    }
+    if has_bad_word(line) {
+        return Answer::Refused(Errno::Einval);
+    }
+    let wishes = asks(line);
+    if is_any(absent(t, g, wishes)) {
+        return Answer::Refused(Errno::Enoent);
+    }
+    if is_any(held(t, g, wishes)) {
+        return Answer::Refused(Errno::Ebusy);
+    }
+    if joins_populated(t, g, wishes) {
+        return Answer::Refused(Errno::Ebusy);
+    }
+    Answer::Done
+}
+
+// "The last word on a controller counts", all or nothing: the set, and the settings of what leaves it in all children.
+pub fn write_subtree_control(tree: &mut Tree, user: u32, group: GroupId, line: &[u8]) -> Answer
+    requires { ⌜ Kept (now tree) ⌝ }
+    ensures { λ r. ⌜ Calling (now (tree .entry)) (now (tree .exit)) (writeControl user (group .0) (now (line .entry))) (verdict (view (now (tree .entry))) (writeControl user (group .0) (now (line .entry)))) r ⌝ }
+{
+    let vetted = vet_control(tree, user, group, line);
+    let Answer::Done = vetted else {
+        return vetted;
+    };
+    let wishes = asks(line);
+    let set = set_after(tree, group, wishes);
+    let gone = leaving(tree, group, wishes);
+    set_and_reset(tree, group, set, gone);
+    Answer::Done
+}
