@@ -1,13 +1,13 @@
 -- A process's place and the running sums above it, changed together: the sums are counted anew along one chain or two, then the
 -- place is stored, and every sum is the number of processes inside. Once for who comes, who goes and who moves. Assumes nothing.
-use Prim.Native.Nat.{ℕ, _+_, _≤_, _<_}
+use Prim.Native.Nat.{ℕ, _+_, _-_, _≤_, _<_}
 use native.Mathlib.Omega.{arith}
-use mathlib.Core.Bool.{true}
+use mathlib.Core.Bool.{Bool, true, false}
 use mathlib.Core.List.{List}
 use mathlib.Core.Logic.{_≢_}
 use mathlib.Core.Path.{_≡_, ap, sym, _∙_, subst}
 use lib.ListN.{length}
-use Rattle.model.specs.Functions.{upd, weigh}
+use Rattle.model.specs.Functions.{pick, upd, weigh, member}
 use Rattle.model.specs.Sizes.{processes}
 use Rattle.model.specs.Tree.{Tree, Place, nowhere, at, Process, noProcess, groupOf, isLive, lives, cores, places, parents, atProcess}
 use Rattle.model.specs.Hierarchy.{inside, headcount, population, amount}
@@ -129,10 +129,10 @@ module _ (xs ys zs : List ℕ) (k : Kept xs) (p : ℕ) (low : p < processes) (v 
 
 -- A birth.
 module _ (xs : List ℕ) (p g : ℕ) (c : Chain) (h : Vacant xs p g c) where
-  pub enter-adjustable : Adjustable xs Processes (listed c) 1 0
-  enter-adjustable =
+  pub enter-adjustable : (n : ℕ) → n ≤ 1 → Adjustable xs Processes (listed c) n 0
+  enter-adjustable n few =
       let o = h .group in
-      adjustable xs (o .home .kept) g (o .home .live) c (o .chain) Processes 1 0 (omega arith) (λ a i. omega arith)
+      adjustable xs (o .home .kept) g (o .home .live) c (o .chain) Processes n 0 (omega arith) (λ a i. omega arith)
 
   pub entered : (ys zs : List ℕ) (user : ℕ) → Adjusted xs ys Processes (listed c) 1 0
       → Wrote ys zs (atProcess (view ys) p (record { place = at g; user = user })) → Seated xs zs p (record { place = at g; user = user })
@@ -149,10 +149,11 @@ module _ (xs : List ℕ) (p : ℕ) (c : Chain) (h : Standing xs p c) where
   standing-inside : (a : ℕ) → inside (parents (view xs)) a (processGroup (view xs) p) ≡ true → 1 ≤ population (cores (view xs)) (places (view xs)) a
   standing-inside a i = counted-within (view xs) p a standing-low (h .live) i
 
-  pub leave-adjustable : Adjustable xs Processes (listed c) 0 1
-  leave-adjustable =
+  pub leave-adjustable : (m : ℕ) → m ≤ 1 → Adjustable xs Processes (listed c) 0 m
+  leave-adjustable m few =
       let o = h .group in
-      adjustable xs (o .home .kept) (processGroup (view xs) p) (o .home .live) c (o .chain) Processes 0 1 (omega arith) standing-inside
+      adjustable xs (o .home .kept) (processGroup (view xs) p) (o .home .live) c (o .chain) Processes 0 m (omega arith)
+      (λ a i. omega (arith, standing-inside a i))
 
   -- without the process
   left-out : (ys : List ℕ) → Adjusted xs ys Processes (listed c) 0 1 → Recounted xs ys (at (processGroup (view xs) p)) nowhere
@@ -173,28 +174,29 @@ module _ (xs : List ℕ) (p : ℕ) (c : Chain) (h : Standing xs p c) where
       (rw (place-live (places (view xs) p) (h .live)) (left-out ys d)) w
 
 -- A move: first out of the sums of one chain, then into those of the other.
-module _ (xs : List ℕ) (p g : ℕ) (source target : Chain) (h : Moving xs p g source target) (ys : List ℕ)
-    (d : Adjusted xs ys Processes (listed source) 0 1) where
-  out : Recounted xs ys (at (processGroup (view xs) p)) nowhere
-  out = left-out xs p source (h .from) ys d
+not-more : (b : Bool) (s m : ℕ) → pick b (s + 0 - m) s ≤ s
+not-more true s m = omega arith
+not-more false s m = omega arith
 
-  pub move-adjustable : Adjustable ys Processes (listed target) 1 0
-  move-adjustable =
+module _ (xs : List ℕ) (p g : ℕ) (source target : Chain) (h : Moving xs p g source target) (ys : List ℕ) where
+  pub move-adjustable : (m n : ℕ) → Adjusted xs ys Processes (listed source) 0 m → n ≤ 1 → Adjustable ys Processes (listed target) n 0
+  move-adjustable m n d few =
       let o = h .to in
-      let was : Adjustable xs Processes (listed target) 1 0 =
-      adjustable xs (o .home .kept) g (o .home .live) target (o .chain) Processes 1 0 (omega arith) (λ a i. omega arith) in
+      let was : Adjustable xs Processes (listed target) n 0 =
+      adjustable xs (o .home .kept) g (o .home .live) target (o .chain) Processes n 0 (omega arith) (λ a i. omega arith) in
       record {
         long = d .long;
         apart = was .apart;
         low = was .low;
-        room = λ a i. omega (arith, was .room a i, out .processes a, weigh-zero (inside (parents (view xs)) a 0));
+        room = λ a i. omega (arith, was .room a i, d .sums a, not-more (member a (listed source)) (sumIn xs Processes a) m);
         enough = λ a i. omega arith;
       }
 
-  pub relocated : (zs us : List ℕ) (user : ℕ) → user ≡ view xs .process p .user → Adjusted ys zs Processes (listed target) 1 0
-      → Wrote zs us (atProcess (view zs) p (record { place = at g; user = user }))
+  pub relocated : (zs us : List ℕ) (user : ℕ) → user ≡ view xs .process p .user → Adjusted xs ys Processes (listed source) 0 1
+      → Adjusted ys zs Processes (listed target) 1 0 → Wrote zs us (atProcess (view zs) p (record { place = at g; user = user }))
       → Seated xs us p (record { place = at g; user = view xs .process p .user })
-  relocated zs us user q e w =
+  relocated zs us user q d e w =
+      let out : Recounted xs ys (at (processGroup (view xs) p)) nowhere = left-out xs p source (h .from) ys d in
       let chain : ChainOf (view ys) g target = subst (λ (t : Tree). ChainOf t g target) (sym (out .tree)) (h .to .chain) in
       let come : Recounted ys zs nowhere (at g) = recounted-more ys zs g target chain e in
       seated xs zs us (h .to .home .kept) p (standing-low xs p source (h .from)) (record { place = at g; user = view xs .process p .user })

@@ -114,7 +114,7 @@ pub fn asks(line: &[u8]) -> Wishes
 }
 
 // Where the first bad word of a text is, or the empty part at its end.
-fn bad_span(text: &[u8]) -> Span
+pub fn bad_span(text: &[u8]) -> Span
     ensures { λ r. ⌜ BadSpan (now (text .entry)) r ⌝ }
 {
     let mut at = 0;

@@ -71,8 +71,8 @@ module _ {xs : List ℕ} {call : Call} {r : Resource} {n p : ℕ} {cs : List Che
     room-call-home = record { kept = o .kept; live = rw (v .group) (process-lives (view xs) (o .kept .formed) p (v .live)) }
 
     module _ {c : Chain} (h : ChainOf (view xs) g c) where
-      pub room-call-searchable : n ≤ largestCharge → Searchable xs r (listed c) n
-      room-call-searchable few = searchable xs (o .kept) g (room-call-home .live) c h r n few
+      pub room-call-searchable : (m : ℕ) → m ≤ largestCharge → Searchable xs r (listed c) m
+      room-call-searchable m few = searchable xs (o .kept) g (room-call-home .live) c h r m few
 
       -- what the search for room found
       module _ (x : Room) (f : roomOf x ≡ consult (actingLimit (view xs) r) (sumIn xs r) n 0 (listed c)) where

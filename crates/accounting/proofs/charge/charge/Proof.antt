@@ -6,7 +6,8 @@ use Rattle.model.specs.Calls.{chargeChecks}
 use Rattle.model.specs.declared.Answer.the-variants.{Done}
 use Rattle.model.proofs.ProcessLaws.{process-range}
 use Rattle.tree.specs.Layout.{view}
-use Rattle.accounting.proofs.ChargeLaws.{charge-refused, charge-live, charge-home, charge-searchable, charge-adjustable, charge-no-room, charge-granted, Vetted}
+use Rattle.tree.proofs.RoomCallLaws.{RoomVetted, room-call-refused, room-call-home, room-call-searchable, room-call-full, room-call-accepted, room-call-granted}
+use Rattle.accounting.proofs.ChargeLaws.{charge-call, charge-live, charge-few, charge-vetted, charge-adjustable, charged}
 use borrow.Author.Needs.{needs}
 use Rattle.accounting.proofs.charge.charge.Statement.{statement}
 use Rattle.accounting.proofs.charge.charge.Tie as tie
@@ -34,13 +35,10 @@ start c = c .before .before
 passed : (c : tie.After-enum-told) → let a = start (vet-at c) .args in first (chargeChecks (view (a .tree .now)) (a .process .0) (a .pages)) ≡ Done
 passed c = sym (vet-at c .vet-charge .ensures) ∙ c .enum-told .given .1
 
--- what is known where the chain is made
-vetted : (c : tie.After-chain-of)
-    → let g = group-at c in let a = start (vet-at (done-at g)) .args in Vetted (a .tree .now) (a .process .0) (a .pages) (g .process-group .result .0) (c .chain-of .result)
-vetted c =
-    let g = group-at c in
-    let d = done-at g in
-    record { kept = start (vet-at d) .pre; passed = passed d; group = g .process-group .ensures; chain = c .chain-of .ensures }
+-- and the group is the process's
+vetted : (c : tie.After-process-group)
+    → let a = start (vet-at (done-at c)) .args in RoomVetted (a .tree .now) (a .process .0) (c .process-group .result .0) (chargeChecks (view (a .tree .now)) (a .process .0) (a .pages))
+vetted c = charge-vetted _ _ _ _ (passed (done-at c)) (c .process-group .ensures)
 
 vet-charge-requires : tie.Need-vet-charge-requires
 vet-charge-requires c κs = search needs
@@ -52,7 +50,7 @@ enum-known-vetted c = search needs
 returns : tie.Need-returns
 returns c =
     let v = c .before .before .before in
-    charge-refused _ (start v .pre) _ _ _ (sym (v .vet-charge .ensures) ∙ c .before .vetted .given .1)
+    room-call-refused (charge-call _ (start v .pre) _ _) _ (sym (v .vet-charge .ensures) ∙ c .before .vetted .given .1)
 
 enum-told : tie.Need-enum-told
 enum-told c = search needs
@@ -65,11 +63,14 @@ process-group-requires c κs =
 chain-of-requires : tie.Need-chain-of-requires
 chain-of-requires c κs =
     let g = c .before in
-    let d = done-at g in
-    charge-home _ (start (vet-at d) .pre) _ _ (passed d) _ (g .process-group .ensures)
+    room-call-home (charge-call _ (start (vet-at (done-at g)) .pre) _ _) (vetted g)
 
 first-full-requires : tie.Need-first-full-requires
-first-full-requires c κs = let h = c .before in (h .chain-of .ensures .whole, charge-searchable _ _ _ _ _ (vetted h))
+first-full-requires c κs =
+    let h = c .before in
+    let g = group-at h in
+    let d = done-at g in
+    (h .chain-of .ensures .whole, room-call-searchable (charge-call _ (start (vet-at d) .pre) _ _) (vetted g) (h .chain-of .ensures) _ (charge-few _ _ _ (passed d)))
 
 enum-known-found : tie.Need-enum-known-found
 enum-known-found c = search needs
@@ -78,20 +79,33 @@ enum-known-found c = search needs
 returns-2 : tie.Need-returns-2
 returns-2 c =
     let f = c .before .before .before in
-    charge-no-room _ _ _ _ _ (vetted (chain-at f)) _ (f .first-full .ensures) _ _ (c .before .found .given .1)
+    let h = chain-at f in
+    let g = group-at h in
+    room-call-full (charge-call _ (start (vet-at (done-at g)) .pre) _ _) (vetted g) (h .chain-of .ensures) _ (f .first-full .ensures) _ _ (c .before .found .given .1)
 
 enum-told-2 : tie.Need-enum-told-2
 enum-told-2 c = search needs
 
 adjust-pages-requires : tie.Need-adjust-pages-requires
-adjust-pages-requires c κs = charge-adjustable _ _ _ _ _ (vetted (chain-at (found-at (c .before))))
+adjust-pages-requires c κs =
+    let h = chain-at (found-at (c .before)) in
+    let g = group-at h in
+    let d = done-at g in
+    charge-adjustable _ _ _ _ (passed d) (g .process-group .ensures) (room-call-home (charge-call _ (start (vet-at d) .pre) _ _) (vetted g)) _ (h .chain-of .ensures)
 
 -- granted
 returns-3 : tie.Need-returns-3
 returns-3 c =
     let e = c .before .before in
     let f = found-at e in
-    charge-granted _ _ _ _ _ (vetted (chain-at f)) _ (f .first-full .ensures) _ (e .enum-told2 .given .1) _ (c .adjust-pages .ensures)
+    let h = chain-at f in
+    let g = group-at h in
+    let d = done-at g in
+    let o = charge-call _ (start (vet-at d) .pre) _ _ in
+    let v = vetted g in
+    room-call-granted o v (h .chain-of .ensures) _ (f .first-full .ensures) _ (e .enum-told2 .given .1) _
+    (charged _ _ _ _ (passed d) (g .process-group .ensures) (start (vet-at d) .pre)
+    (room-call-accepted o v (h .chain-of .ensures) _ (f .first-full .ensures) _ (e .enum-told2 .given .1)) _ (c .adjust-pages .ensures))
 
 pub charge-spec : {M : Type 1} → statement M
 charge-spec =

@@ -78,7 +78,7 @@ first-full-requires : tie.Need-first-full-requires
 first-full-requires c κs =
     let h = c .before in
     let g = group-at (user-at h) in
-    (h .chain-of .ensures .whole, room-call-searchable (fork-call _ (start (vet-at (done-at g)) .pre) _ _) (vetted g) (h .chain-of .ensures) (omega arith))
+    (h .chain-of .ensures .whole, room-call-searchable (fork-call _ (start (vet-at (done-at g)) .pre) _ _) (vetted g) (h .chain-of .ensures) _ (omega arith))
 
 enum-known-found : tie.Need-enum-known-found
 enum-known-found c = search needs

@@ -1,10 +1,11 @@
 -- `processes::place::enter` meets its contract: one more along the chain, then the place. Assumes nothing.
+use native.Mathlib.Omega.{arith}
 use Rattle.processes.proofs.PlaceLaws.{enter-adjustable, entered}
 use Rattle.processes.proofs.place.enter.Statement.{statement}
 use Rattle.processes.proofs.place.enter.Tie as tie
 
 adjust-along-requires : tie.Need-adjust-along-requires
-adjust-along-requires c κs = let s = c .before in (s .pre .group .chain .whole, enter-adjustable _ _ _ _ (s .pre))
+adjust-along-requires c κs = let s = c .before in (s .pre .group .chain .whole, enter-adjustable _ _ _ _ (s .pre) _ (omega arith))
 
 put-process-requires : tie.Need-put-process-requires
 put-process-requires c κs = let s = c .before .before .before in (record { long = c .before .adjust-along .ensures .long; low = s .pre .low }, s .pre .group .home .kept .formed .sound .range _ (s .pre .group .home .live))
