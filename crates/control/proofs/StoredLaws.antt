@@ -5,7 +5,7 @@ use mathlib.Core.List.{List}
 use mathlib.Core.Option.{Option, none, some}
 use mathlib.Core.Path.{_≡_, refl, ap, ap₂, sym, _∙_}
 use Rattle.model.specs.Functions.{upd}
-use Rattle.model.specs.Tree.{Tree, Core, Group, Place, Controls, withSet, cores, lives, places}
+use Rattle.model.specs.Tree.{Tree, Core, Group, Place, Controls, Settings, withSet, withSettings, cores, lives, places}
 use Rattle.model.specs.Hierarchy.{childOf, ownPages, amount}
 use Rattle.model.specs.Settings.{SettingValue}
 use Rattle.model.specs.Rules.{leaving}
@@ -46,29 +46,27 @@ amount-same s s′ pl e f Processes a = population-same s s′ pl e a
 
 -- ---- a setting
 
+-- a part of a group that holds no settings
+part-written : {A : Type 0} (F : Group → A) → ((x : Settings) (v : Group) → F (withSettings x v) ≡ F v)
+    → (o : Option SettingValue) (v : Group) → F (written o v) ≡ F v
+part-written F e none v = refl
+part-written F e (some x) v = e _ v
+
 module _ (t : Tree) (g : ℕ) (o : Option SettingValue) where
   abbrev set-in : ℕ → Group
   set-in = upd (t .group) g (written o (t .group g))
 
+  part-after-setting : {A : Type 0} (F : Group → A) → ((x : Settings) (v : Group) → F (withSettings x v) ≡ F v)
+      → (k : ℕ) → F (set-in k) ≡ F (t .group k)
+  part-after-setting F e = upd-keeps F (t .group) g _ (part-written F e o (t .group g))
+
   live-after-setting : (k : ℕ) → set-in k .core .live ≡ lives t k
-  live-after-setting = upd-keeps (λ v. v .core .live) (t .group) g _ (go o)
-    where
-      go : (o : Option SettingValue) → written o (t .group g) .core .live ≡ lives t g
-      go none = refl
-      go (some x) = refl
+  live-after-setting = part-after-setting (λ v. v .core .live) (λ _ _. refl)
 
   amount-after-setting : (r : Resource) (a : ℕ) → amount (λ k. set-in k .core) (places t) r a ≡ amount (cores t) (places t) r a
   amount-after-setting =
       amount-same (cores t) (λ k. set-in k .core) (places t)
-      (upd-keeps (λ v. v .core .parent) (t .group) g _ (parent o)) (upd-keeps (λ v. ownPages (v .core)) (t .group) g _ (own o))
-    where
-      parent : (o : Option SettingValue) → written o (t .group g) .core .parent ≡ t .group g .core .parent
-      parent none = refl
-      parent (some x) = refl
-
-      own : (o : Option SettingValue) → ownPages (written o (t .group g) .core) ≡ ownPages (t .group g .core)
-      own none = refl
-      own (some x) = refl
+      (part-after-setting (λ v. v .core .parent) (λ _ _. refl)) (part-after-setting (λ v. ownPages (v .core)) (λ _ _. refl))
 
 module _ (xs : List ℕ) (k : Kept xs) (user g : ℕ) (file line : List ℕ)
     (v : verdict (view xs) (writeSetting user g file line) ≡ Done)

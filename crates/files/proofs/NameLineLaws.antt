@@ -53,7 +53,8 @@ line-text : (cpu memory pids : Bool) (i j k : ℕ)
     → i ≡ 0 + length (nameAfter 0 cpu (bytes "cpu"))
     → j ≡ i + length (nameAfter i memory (bytes "memory"))
     → k ≡ j + length (nameAfter j pids (bytes "pids"))
-    → ((nameAfter 0 cpu (bytes "cpu") ++ nameAfter i memory (bytes "memory")) ++ nameAfter j pids (bytes "pids")) ++ endAfter k
+    → ((nameAfter 0 cpu (bytes "cpu") ++ nameAfter i memory (bytes "memory")) ++ nameAfter j pids (bytes "pids"))
+    ++ endAfter k
     ≡ nameLine (namesOf (controlsOf cpu memory pids) controllers)
 unfolding namesOf nameLine spaced
 line-text true true true i j k e f g = rw (g, f, e)
@@ -82,7 +83,8 @@ unfolding namesOf
 controls-same cpu memory pids f a b c = rw (a, b, c)
 
 module _ (xs : List ℕ) (g : ℕ) (cpu memory pids : Bool) where
-  pub controllers-text : cpu ≡ available (view xs) Cpu g → memory ≡ available (view xs) Memory g → pids ≡ available (view xs) Pids g
+  pub controllers-text : cpu ≡ available (view xs) Cpu g → memory ≡ available (view xs) Memory g
+      → pids ≡ available (view xs) Pids g
       → nameLine (namesOf (controlsOf cpu memory pids) controllers) ≡ contents (factsOf (view xs)) g Controllers
   unfolding contents
   controllers-text = controls-same cpu memory pids (λ c. available (view xs) c g)

@@ -1,5 +1,5 @@
--- Laws of paths and membership lines: a path by the parent's, its length, and that more steps than the depth change nothing.
--- Assumes nothing.
+-- Laws of paths and membership lines: a path by the parent's, its length, and that more steps than the depth change
+-- nothing. Assumes nothing.
 use Prim.Native.Nat.{ℕ, zero, suc, _+_, _-_, _*_, _≤_, _<_}
 use native.Mathlib.Numerals.{sub-one}
 use native.Mathlib.Omega.{arith}
@@ -66,28 +66,53 @@ module _ {live : ℕ → Bool} {up depth : ℕ → ℕ} (s : Sound live up depth
       (λ e. rw (path-root up (suc n) g e) (omega arith))
       (λ ne.
       rw (path-up up n g ne, length-append)
-      (omega (arith, length-path n (up g) (s .above g l ne), length-decimal g 2 (omega (arith, s .range g l)) (omega arith))))
+      (omega (
+        arith,
+        length-path n (up g) (s .above g l ne),
+        length-decimal g 2 (omega (arith, s .range g l)) (omega arith),
+      )))
 
   module _ (g deep p : ℕ) (l : live g ≡ true) (d : deep ≡ depth g) (nz : deep ≢ 0) (e : p ≡ up g) where
     -- a group of some depth is not the root
-    pub deep-below : g ≢ 0
+    deep-below : g ≢ 0
     deep-below z = nz (d ∙ ap depth z ∙ s .level)
 
-    pub deep-live : live p ≡ true
+    deep-live : live p ≡ true
     deep-live = rw e (s .above g l deep-below)
 
-    pub deep-above : deep - 1 ≡ depth p
+    deep-above : deep - 1 ≡ depth p
     deep-above = rw e (omega (arith, s .deeper g l deep-below))
 
-    pub path-deep : path up (deep - 1) p ++ (bytes "/" ++ decimal g) ≡ path up deep g
+    path-deep : path up (deep - 1) p ++ (bytes "/" ++ decimal g) ≡ path up deep g
     path-deep = rw e (go deep nz)
       where
         go : (n : ℕ) → n ≢ 0 → path up (n - 1) (up g) ++ (bytes "/" ++ decimal g) ≡ path up n g
         go zero ne = absurd (ne refl)
         go (suc n) ne = rw sub-one (sym (path-up up n g deep-below))
 
-    pub length-path-deep : length (path up deep g) ≡ length (path up (deep - 1) p) + suc (length (decimal g))
+    length-path-deep : length (path up deep g) ≡ length (path up (deep - 1) p) + suc (length (decimal g))
     length-path-deep = rw (← path-deep, length-append)
+
+-- ---- a group that is not the root, by its parent
+
+module _ (xs : List ℕ) (g deep : ℕ) (out : List ℕ) (i : ℕ) (h : HasPath xs g deep out i) (nz : deep ≢ 0) (p : ℕ)
+    (e : p ≡ parents (view xs) g) where
+  sound : Sound (lives (view xs)) (parents (view xs)) (depths (view xs))
+  sound = h .group .kept .formed .sound
+
+  pub path-text : path (parents (view xs)) (deep - 1) p ++ (bytes "/" ++ decimal g) ≡ path (parents (view xs)) deep g
+  path-text = path-deep sound g deep p (h .group .live) (h .level) nz e
+
+  pub path-fits : i + (length (path (parents (view xs)) (deep - 1) p) + suc (length (decimal g))) ≤ length out
+  path-fits = omega (arith, length-path-deep sound g deep p (h .group .live) (h .level) nz e, h .room)
+
+  pub path-above : HasPath xs p (deep - 1) out i
+  path-above =
+      record {
+        group = record { kept = h .group .kept; live = deep-live sound g deep p (h .group .live) (h .level) nz e };
+        level = deep-above sound g deep p (h .group .live) (h .level) nz e;
+        room = omega (arith, path-fits);
+      }
 
 -- ---- the path that a membership line shows
 
@@ -98,7 +123,8 @@ module _ (xs : List ℕ) (g : ℕ) (k : KeptAt xs g) where
   pub place-root : g ≡ 0 → bytes "/" ≡ placePath (view xs) g
   place-root e = rw (eq-eqb g 0 e)
 
-  pub place-path : g ≢ 0 → (deep : ℕ) → deep ≡ depths (view xs) g → path (parents (view xs)) deep g ≡ placePath (view xs) g
+  pub place-path : g ≢ 0 → (deep : ℕ) → deep ≡ depths (view xs) g
+      → path (parents (view xs)) deep g ≡ placePath (view xs) g
   place-path ne deep d = rw (d, ne-eqb g 0 ne) (path-depth s g (k .live))
 
   pub place-room : (out : List ℕ) (i deep : ℕ) → i + longestPath ≤ length out → deep ≡ depths (view xs) g

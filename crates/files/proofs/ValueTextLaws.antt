@@ -52,18 +52,21 @@ module _ (xs : List ℕ) (g : ℕ) (k : KeptAt xs g) where
 
   pub length-figure : (r : Resource) (n f : ℕ) → n ≡ sumIn xs r g → f ≡ toFigure r n → length (decimal f) ≤ 16
   length-figure r n f e q =
-      length-decimal f 16 (omega (arith, figure-small r n (omega (arith, sum-small xs (k .kept) r g (k .live))))) (omega arith)
+      let small = figure-small r n (omega (arith, sum-small xs (k .kept) r g (k .live))) in
+      length-decimal f 16 (omega (arith, small)) (omega arith)
 
   pub current-text : (r : Resource) (n f : ℕ) → n ≡ sumIn xs r g → f ≡ toFigure r n
       → ended (decimal f) ≡ contents (factsOf (view xs)) g (Current r)
   unfolding contents
   current-text r n f e q = ap (λ (m : ℕ). ended (decimal m)) (q ∙ ap (toFigure r) (e ∙ k .kept .sums r g (k .live)))
 
-  pub events-none : (n : ℕ) → n ≡ sumIn xs Processes g → n ≡ 0 → bytes "populated 0\n" ≡ contents (factsOf (view xs)) g Events
+  pub events-none : (n : ℕ) → n ≡ sumIn xs Processes g → n ≡ 0
+      → bytes "populated 0\n" ≡ contents (factsOf (view xs)) g Events
   unfolding contents
   events-none n e z = rw (eq-eqb _ 0 (sym (e ∙ k .kept .sums Processes g (k .live)) ∙ z))
 
-  pub events-some : (n : ℕ) → n ≡ sumIn xs Processes g → n ≢ 0 → bytes "populated 1\n" ≡ contents (factsOf (view xs)) g Events
+  pub events-some : (n : ℕ) → n ≡ sumIn xs Processes g → n ≢ 0
+      → bytes "populated 1\n" ≡ contents (factsOf (view xs)) g Events
   unfolding contents
   events-some n e z = rw (ne-eqb _ 0 (λ w. z (e ∙ k .kept .sums Processes g (k .live) ∙ w)))
 
@@ -72,14 +75,16 @@ module _ (xs : List ℕ) (g : ℕ) (k : KeptAt xs g) where
   pub length-value : (s : Setting) → length (valueText (shown s (settingsAt (view xs) g))) + 1 ≤ longestLine
   length-value s =
       let v : SettingValue = shown s (settingsAt (view xs) g) in
-      omega (arith, length-append (valueText v) (newline ∷ []), length-line v (k .kept .formed .ranges .within s g (k .live)))
+      let e = k .kept .formed .ranges .within s g (k .live) in
+      omega (arith, length-append (valueText v) (newline ∷ []), length-line v e)
 
   pub limit-range : (r : Resource) (l : Limit) → l ≡ view xs .group g .core .limit r
       → figureIn 0 (largest r) (mapLimit (toFigure r) l) ≡ true
   unfolding inRange shown
   limit-range r l e = rw e (k .kept .formed .ranges .within (Max r) g (k .live))
 
-  pub weight-text : (n : ℕ) → n ≡ view xs .group g .cpu .weight → decimal n ≡ valueText (shown CpuWeight (settingsAt (view xs) g))
+  pub weight-text : (n : ℕ) → n ≡ view xs .group g .cpu .weight
+      → decimal n ≡ valueText (shown CpuWeight (settingsAt (view xs) g))
   unfolding shown valueText
   weight-text n e = ap decimal e
 
@@ -98,7 +103,8 @@ module _ (xs : List ℕ) (g : ℕ) (k : KeptAt xs g) where
   unfolding contents
   setting-text s = refl
 
-pub bandwidth-words : (q : Limit) (n : ℕ) → limitText q ++ ((space ∷ []) ++ decimal n) ≡ valueText (bandwidth q (some n))
+pub bandwidth-words : (q : Limit) (n : ℕ)
+    → limitText q ++ ((space ∷ []) ++ decimal n) ≡ valueText (bandwidth q (some n))
 unfolding valueText
 bandwidth-words q n = refl
 

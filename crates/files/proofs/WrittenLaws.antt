@@ -1,4 +1,4 @@
--- Laws of what is written: nothing, and that it is inside its buffer. What is written piece by piece is in text's WriteLaws.
+-- Laws of what is written: nothing, and that it is inside its buffer. One text after another is in text's WriteLaws.
 -- Assumes nothing.
 use Prim.Native.Nat.{ℕ, _≤_}
 use native.Mathlib.Omega.{arith}

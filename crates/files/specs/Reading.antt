@@ -1,5 +1,5 @@
--- What the calls that deliver a text promise, and what the writers of its parts ask and write: document 01, "What a reader
--- sees". Assumes nothing.
+-- What the calls that deliver a text promise, and what the writers of its parts ask and write: document 01, "What a
+-- reader sees". Assumes nothing.
 use Prim.Native.Nat.{ℕ, _+_, _*_, _≤_}
 use mathlib.Core.Bool.{Bool, true}
 use mathlib.Core.List.{List, [], _∷_}
@@ -51,7 +51,7 @@ pub record HasLine (xs : List ℕ) (p : ℕ) (out : List ℕ) : Type 0 where
 abbrev pub placePath : Tree → ℕ → List ℕ
 placePath t g = pick (eqb g 0) (bytes "/") (path (parents t) deepest g)
 
--- what a name adds to a list that has come to a place: nothing if it is not listed, and a space before any but the first
+-- what a name adds to a list that has come to a place: nothing if it is not listed, else a space before all but the first
 abbrev pub nameAfter : ℕ → Bool → List ℕ → List ℕ
 nameAfter at listed name = pick listed (pick (eqb at 0) name (space ∷ name)) []
 

@@ -4,7 +4,8 @@ use Rattle.model.specs.Tree.{Group}
 use Rattle.tree.specs.Changes.{GroupRow}
 use Rattle.tree.specs.Layout.{view}
 use Rattle.control.proofs.ValueLaws.{settable-row, figure-in, storable-kept, storable-quota, storable-bandwidth, storable-amount}
-use Rattle.control.proofs.ValueLaws.{weight-written, quota-written, bandwidth-written, limit-written, malformed-written, out-of-range-written}
+use Rattle.control.proofs.ValueLaws.{weight-written, quota-written, bandwidth-written, limit-written}
+use Rattle.control.proofs.ValueLaws.{malformed-written, out-of-range-written}
 use Rattle.control.proofs.WroteLaws.{wrote-group-as, wrote-none}
 use Rattle.control.proofs.setting.store.Statement.{statement}
 use Rattle.control.proofs.setting.store.Tie as tie

@@ -28,7 +28,12 @@ returns c =
     let m = p .before in
     let k = m .before in
     let a = k .before .before .args in
-    wrote-as (controllers-text (a .t .now) (a .g .0) _ _ _ (k .is-available .ensures) (m .is-available2 .ensures) (p .is-available3 .ensures)) (w .put-names .ensures)
+    wrote-as
+    (controllers-text (a .t .now) (a .g .0) _ _ _
+    (k .is-available .ensures)
+    (m .is-available2 .ensures)
+    (p .is-available3 .ensures))
+    (w .put-names .ensures)
 
 pub put-controllers-spec : {M : Type 1} → statement M
 put-controllers-spec =

@@ -11,7 +11,8 @@ use Rattle.files.proofs.list.put_name.Tie as tie
 returns : tie.Need-returns
 returns c =
     let a = c .before .before .before .args in
-    wrote-as (name-unlisted (a .at) (a .name .now) (a .listed) (not-true _ (c .if1 .taken))) (wrote-nothing (a .out .now) (a .at))
+    wrote-as (name-unlisted (a .at) (a .name .now) (a .listed) (not-true _ (c .if1 .taken)))
+    (wrote-nothing (a .out .now) (a .at))
 
 put-text-requires : tie.Need-put-text-requires
 put-text-requires c κs = search needs
@@ -25,7 +26,8 @@ returns-2 c =
     let w = c .before .before in
     let i = w .before .before in
     let a = i .before .before .before .before .args in
-    wrote-as (name-first (a .at) (a .name .now) (a .listed) (not-false _ (i .before .if1 .left)) (i .if2 .taken)) (w .put-text .ensures)
+    wrote-as (name-first (a .at) (a .name .now) (a .listed) (not-false _ (i .before .if1 .left)) (i .if2 .taken))
+    (w .put-text .ensures)
 
 put-byte-requires : tie.Need-put-byte-requires
 put-byte-requires c κs = search needs

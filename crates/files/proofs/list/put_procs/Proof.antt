@@ -1,5 +1,5 @@
--- `files::list::put_procs` meets its contract. The invariant: the lines written so far, and those of the numbers that are
--- left, are all the lines. The measure is how many numbers are left. Assumes nothing.
+-- `files::list::put_procs` meets its contract. The invariant: the lines written so far, and those of the numbers that
+-- are left, are all the lines. The measure is how many numbers are left. Assumes nothing.
 use Prim.Native.Nat.{_-_}
 use native.Mathlib.Omega.{arith}
 use mathlib.Core.Path.{_≡_, refl, sym, _∙_}
@@ -28,7 +28,8 @@ put-line-requires : tie.Need-put-line-requires Inv-loop μ-loop
 put-line-requires c κs =
     let l = c .before .before .before .before in
     let s = l .before .before in
-    listing-room _ _ _ _ _ (l .loop .inv .1) (c .before .before .before .loop-test .taken) (omega (arith, s .pre .room, l .loop .inv .0))
+    listing-room _ _ _ _ _ (l .loop .inv .1) (omega (arith, c .before .before .before .loop-test .taken))
+    (omega (arith, s .pre .room, l .loop .inv .0))
 
 add-p : tie.Need-add-p Inv-loop μ-loop
 add-p c = omega arith
@@ -42,7 +43,7 @@ loop-again c =
     let i = w .before .before in
     let l = i .before .before .before in (
       w .put-line .kept .0 ∙ l .loop .inv .0,
-      listing-line _ _ _ _ _ (l .loop .inv .1) (i .before .before .loop-test .taken) _ _
+      listing-line _ _ _ _ _ (l .loop .inv .1) (omega (arith, i .before .before .loop-test .taken)) _ _
           (sym (i .before .stands-in .ensures) ∙ i .if1 .taken) (w .put-line .ensures),
     )
 
@@ -56,7 +57,8 @@ loop-again-2 : tie.Need-loop-again-2 Inv-loop μ-loop
 loop-again-2 c =
     let l = c .before .before .before in (
       l .loop .inv .0,
-      listing-skip _ _ _ _ _ (l .loop .inv .1) (c .before .before .loop-test .taken) (sym (c .before .stands-in .ensures) ∙ c .if1 .left),
+      listing-skip _ _ _ _ _ (l .loop .inv .1) (omega (arith, c .before .before .loop-test .taken))
+          (sym (c .before .stands-in .ensures) ∙ c .if1 .left),
     )
 
 same-length : tie.Need-same-length Inv-loop μ-loop
@@ -64,7 +66,7 @@ same-length c = c .before .loop .inv .0
 
 returns : tie.Need-returns Inv-loop μ-loop
 unfolding contents
-returns c = listing-end _ _ _ _ _ (c .before .loop .inv .1) (c .loop-test .left) _
+returns c = listing-end _ _ _ _ _ (c .before .loop .inv .1) (omega (arith, c .loop-test .left)) _
 
 pub put-procs-spec : {M : Type 1} → statement M
 put-procs-spec =

@@ -27,7 +27,8 @@ returns c =
     let m = p .before in
     let k = m .before in
     let a = k .before .before .args in
-    wrote-as (control-text (a .t .now) (a .g .0) _ _ _ (k .has .ensures) (m .has2 .ensures) (p .has3 .ensures)) (w .put-names .ensures)
+    wrote-as (control-text (a .t .now) (a .g .0) _ _ _ (k .has .ensures) (m .has2 .ensures) (p .has3 .ensures))
+    (w .put-names .ensures)
 
 pub put-subtree-control-spec : {M : Type 1} → statement M
 put-subtree-control-spec =

@@ -1,5 +1,5 @@
--- `files::path::put_path` meets its contract: the path of a group is its parent's, a "/" and its number. The measure is the
--- depth, which is one less for the parent. Assumes nothing.
+-- `files::path::put_path` meets its contract: the path of a group is its parent's, a "/" and its number. The measure is
+-- the depth, which is one less for the parent. Assumes nothing.
 use Prim.Native.Nat.{ℕ, _<_}
 use native.Mathlib.Omega.{arith}
 use mathlib.Core.Path.{_∙_}
@@ -12,7 +12,7 @@ use Rattle.text.proofs.write.put_number.Reads as put-number-reads
 use Rattle.tree.specs.Layout.{view}
 use Rattle.tree.proofs.layout.parent.Reads as parent-reads
 use Rattle.files.proofs.WrittenLaws.{wrote-nothing}
-use Rattle.files.proofs.PathLaws.{path-none, deep-live, deep-above, path-deep, length-path-deep}
+use Rattle.files.proofs.PathLaws.{path-none, path-text, path-fits, path-above}
 use Rattle.files.proofs.path.+put_path.{statement}
 use Rattle.files.proofs.path.+put_path.Lts-put_path as lts
 use Rattle.files.proofs.path.put_path.Kinds as put-path-kinds
@@ -47,7 +47,8 @@ module _ (t : ℕ) where
   returns : lts.Need-returns (claims t) (put-path-at t) put-path.Post
   returns c =
       let a = c .before .before .args in
-      wrote-as (path-none (parents (view (a .t .now))) (a .deep) (a .g .0) (c .if1 .taken)) (wrote-nothing (a .out .now) (a .at))
+      wrote-as (path-none (parents (view (a .t .now))) (a .deep) (a .g .0) (c .if1 .taken))
+      (wrote-nothing (a .out .now) (a .at))
 
   parent-requires : lts.Need-parent-requires (claims t) (put-path-at t) put-path.Post
   parent-requires c κs = let k = c .before .before .pre .1 .group in k .kept .formed .sound .range _ (k .live)
@@ -58,21 +59,9 @@ module _ (t : ℕ) where
   put-path-requires : lts.Need-put-path-requires (claims t) (put-path-at t) put-path.Post
   put-path-requires c κs =
       let u = c .before in
-      let s = u .before .before .before in
-      let k = s .pre .1 .group in
-      let w = k .kept .formed .sound in
-      let nz = u .before .if1 .left in (
-        omega (arith, nz, s .pre .0),
-        record {
-          group = record { kept = k .kept; live = deep-live w _ _ _ (k .live) (s .pre .1 .level) nz (u .parent .ensures) };
-          level = deep-above w _ _ _ (k .live) (s .pre .1 .level) nz (u .parent .ensures);
-          room =
-              omega (
-                arith,
-                length-path-deep w (s .args .g .0) (s .args .deep) (u .parent .result .0) (k .live) (s .pre .1 .level) nz (u .parent .ensures),
-                s .pre .1 .room,
-              );
-        },
+      let s = u .before .before .before in (
+        omega (arith, u .before .if1 .left, s .pre .0),
+        path-above _ _ _ _ _ (s .pre .1) (u .before .if1 .left) _ (u .parent .ensures),
       )
 
   put-byte-requires : lts.Need-put-byte-requires (claims t) (put-path-at t) put-path.Post
@@ -80,11 +69,9 @@ module _ (t : ℕ) where
       let p = c .before .before .before in
       let u = p .before .before in
       let s = u .before .before .before in
-      let k = s .pre .1 .group in
       omega (
         arith,
-        length-path-deep (k .kept .formed .sound) (s .args .g .0) (s .args .deep) (u .parent .result .0) (k .live) (s .pre .1 .level) (u .before .if1 .left) (u .parent .ensures),
-        s .pre .1 .room,
+        path-fits _ _ _ _ _ (s .pre .1) (u .before .if1 .left) _ (u .parent .ensures),
         p .put-path .ensures .end,
         p .put-path .kept .1 .1 .1 .0,
       )
@@ -95,11 +82,9 @@ module _ (t : ℕ) where
       let p = b .before .before .before .before in
       let u = p .before .before in
       let s = u .before .before .before in
-      let k = s .pre .1 .group in
       omega (
         arith,
-        length-path-deep (k .kept .formed .sound) (s .args .g .0) (s .args .deep) (u .parent .result .0) (k .live) (s .pre .1 .level) (u .before .if1 .left) (u .parent .ensures),
-        s .pre .1 .room,
+        path-fits _ _ _ _ _ (s .pre .1) (u .before .if1 .left) _ (u .parent .ensures),
         p .put-path .ensures .end,
         p .put-path .kept .1 .1 .1 .0,
         b .put-byte .ensures .end,
@@ -121,9 +106,7 @@ module _ (t : ℕ) where
       let p = b .before .before .before .before in
       let u = p .before .before in
       let s = u .before .before .before in
-      let k = s .pre .1 .group in
-      wrote-as
-      (path-deep (k .kept .formed .sound) (s .args .g .0) (s .args .deep) (u .parent .result .0) (k .live) (s .pre .1 .level) (u .before .if1 .left) (u .parent .ensures))
+      wrote-as (path-text _ _ _ _ _ (s .pre .1) (u .before .if1 .left) _ (u .parent .ensures))
       (wrote-then (p .put-path .ensures) (wrote-then (b .put-byte .ensures) (n .put-number .ensures)))
 
 pub +put-path-spec : {M : Type 1} → statement M

@@ -36,7 +36,7 @@ returns-2 c =
     let w = c .before .before in
     let d = w .before .before in
     let s = d .before .before .before .before in
-    wrote-as (place-path (s .args .t .now) (s .args .g .0) (s .pre .0) (d .before .if1 .left) _ (d .depth .ensures)) (w .put-path .ensures)
+    wrote-as (place-path _ _ (s .pre .0) (d .before .if1 .left) _ (d .depth .ensures)) (w .put-path .ensures)
 
 pub put-place-spec : {M : Type 1} → statement M
 put-place-spec =

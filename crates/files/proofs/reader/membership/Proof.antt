@@ -23,7 +23,8 @@ returns-2 : tie.Need-returns-2
 returns-2 c =
     let p = c .before in
     let s = p .before .before .before .before in
-    membership-dead (s .args .tree .now) (s .args .process .0) (s .args .reply .now) (sym (p .is-process .ensures) ∙ not-true _ (c .if2 .taken))
+    membership-dead (s .args .tree .now) (s .args .process .0) (s .args .reply .now)
+    (sym (p .is-process .ensures) ∙ not-true _ (c .if2 .taken))
 
 slice-aggregate-put-membership : tie.Need-slice-aggregate-put-membership
 slice-aggregate-put-membership c = search needs

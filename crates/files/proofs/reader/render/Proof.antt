@@ -11,7 +11,8 @@ use Rattle.files.proofs.reader.render.Tie as tie
 
 -- the text of the file that was matched
 shows : (s : tie.Start) {x y : File} → x ≡ y
-    → contents (factsOf (view (s .args .t .now))) (s .args .g .0) x ≡ contents (factsOf (view (s .args .t .now))) (s .args .g .0) y
+    → contents (factsOf (view (s .args .t .now))) (s .args .g .0) x
+    ≡ contents (factsOf (view (s .args .t .now))) (s .args .g .0) y
 shows s e = ap (contents (factsOf (view (s .args .t .now))) (s .args .g .0)) e
 
 enum-told : tie.Need-enum-told

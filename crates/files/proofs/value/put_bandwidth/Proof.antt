@@ -15,7 +15,13 @@ put-byte-requires : tie.Need-put-byte-requires
 put-byte-requires c κs =
     let l = c .before .before .before in
     let s = l .before .before .before in
-    omega (arith, length-bandwidth (s .args .quota) (s .args .period), s .pre, l .put-limit .ensures .end, l .put-limit .kept .0)
+    omega (
+      arith,
+      length-bandwidth (s .args .quota) (s .args .period),
+      s .pre,
+      l .put-limit .ensures .end,
+      l .put-limit .kept .0,
+    )
 
 put-number-requires : tie.Need-put-number-requires
 put-number-requires c κs =

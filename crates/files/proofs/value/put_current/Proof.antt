@@ -12,7 +12,7 @@ sum-requires c κs = let r = c .before .pre .group in r .kept .formed .sound .ra
 to-figure-requires : tie.Need-to-figure-requires
 to-figure-requires c κs =
     let s = c .before .before in
-    figure-fits (s .args .t .now) (s .args .g .0) (s .pre .group) (s .args .s) _ (c .sum .ensures)
+    figure-fits _ _ (s .pre .group) (s .args .s) _ (c .sum .ensures)
 
 put-line-requires : tie.Need-put-line-requires
 put-line-requires c κs =
@@ -21,7 +21,7 @@ put-line-requires c κs =
     let s = u .before .before in
     omega (
       arith,
-      length-figure (s .args .t .now) (s .args .g .0) (s .pre .group) (s .args .s) (u .sum .result) (f .to-figure .result) (u .sum .ensures) (f .to-figure .ensures),
+      length-figure _ _ (s .pre .group) (s .args .s) _ _ (u .sum .ensures) (f .to-figure .ensures),
       s .pre .room,
     )
 
@@ -35,7 +35,7 @@ returns c =
     let u = f .before in
     let s = u .before .before in
     wrote-as
-    (current-text (s .args .t .now) (s .args .g .0) (s .pre .group) (s .args .s) _ _ (u .sum .ensures) (f .to-figure .ensures))
+    (current-text _ _ (s .pre .group) (s .args .s) _ _ (u .sum .ensures) (f .to-figure .ensures))
     (w .put-line .ensures)
 
 pub put-current-spec : {M : Type 1} → statement M

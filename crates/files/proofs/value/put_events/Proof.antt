@@ -23,7 +23,7 @@ returns c =
     let w = c .before .before in
     let i = w .before .before .before in
     let s = i .before .before .before in
-    wrote-as (events-none (s .args .t .now) (s .args .g .0) (s .pre .group) _ (i .before .sum .ensures) (i .if1 .taken)) (w .put-text .ensures)
+    wrote-as (events-none _ _ (s .pre .group) _ (i .before .sum .ensures) (i .if1 .taken)) (w .put-text .ensures)
 
 slice-aggregate-put-text-2 : tie.Need-slice-aggregate-put-text-2
 slice-aggregate-put-text-2 c = search needs
@@ -34,12 +34,13 @@ put-text-requires-2 c κs = search needs
 same-length-2 : tie.Need-same-length-2
 same-length-2 c = search needs
 
+-- some
 returns-2 : tie.Need-returns-2
 returns-2 c =
     let w = c .before .before in
     let i = w .before .before .before in
     let s = i .before .before .before in
-    wrote-as (events-some (s .args .t .now) (s .args .g .0) (s .pre .group) _ (i .before .sum .ensures) (i .if1 .left)) (w .put-text2 .ensures)
+    wrote-as (events-some _ _ (s .pre .group) _ (i .before .sum .ensures) (i .if1 .left)) (w .put-text2 .ensures)
 
 pub put-events-spec : {M : Type 1} → statement M
 put-events-spec =

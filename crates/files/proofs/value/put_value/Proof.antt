@@ -1,8 +1,10 @@
 -- `files::value::put_value` meets its contract: each arm writes what its setting shows. Assumes nothing.
+use Prim.Native.Nat.{_<_}
 use native.Mathlib.Omega.{arith}
 use mathlib.Core.Path.{_≡_, ap, sym, _∙_}
 use lib.ListN.{length}
 use borrow.Author.Needs.{needs}
+use Rattle.model.specs.Sizes.{groups}
 use Rattle.model.specs.Tree.{settingsAt}
 use Rattle.model.specs.Settings.{shown, valueText}
 use Rattle.model.specs.declared.Setting.{Setting}
@@ -19,36 +21,43 @@ shows : (s : tie.Start) {x y : Setting} → x ≡ y
     ≡ valueText (shown y (settingsAt (view (s .args .t .now)) (s .args .g .0)))
 shows s e = ap (λ (z : Setting). valueText (shown z (settingsAt (view (s .args .t .now)) (s .args .g .0)))) e
 
+-- a live group has a row
+row : (s : tie.Start) → s .args .g .0 < groups
+row s = let k = s .pre .group in k .kept .formed .sound .range _ (k .live)
+
 enum-told : tie.Need-enum-told
 enum-told c = search needs
 
 weight-requires : tie.Need-weight-requires
-weight-requires c κs = let r = c .before .before .before .before .pre .group in r .kept .formed .sound .range _ (r .live)
+weight-requires c κs = row (c .before .before .before .before)
 
 put-number-requires : tie.Need-put-number-requires
 put-number-requires c κs =
     let s = c .before .before .before .before .before in
-    let t = s .args .t .now in
-    omega (arith, ap length (weight-text t (s .args .g .0) (s .pre .group) (c .weight .result) (c .weight .ensures)), length-value t (s .args .g .0) (s .pre .group) CpuWeight, s .pre .room)
+    omega (
+      arith,
+      ap length (weight-text _ _ (s .pre .group) _ (c .weight .ensures)),
+      length-value _ _ (s .pre .group) CpuWeight,
+      s .pre .room,
+    )
 
 enum-told-2 : tie.Need-enum-told-2
 enum-told-2 c = search needs
 
 quota-requires : tie.Need-quota-requires
-quota-requires c κs = let r = c .before .before .before .before .pre .group in r .kept .formed .sound .range _ (r .live)
+quota-requires c κs = row (c .before .before .before .before)
 
 period-requires : tie.Need-period-requires
-period-requires c κs = let r = c .before .before .before .before .before .pre .group in r .kept .formed .sound .range _ (r .live)
+period-requires c κs = row (c .before .before .before .before .before)
 
 put-bandwidth-requires : tie.Need-put-bandwidth-requires
 put-bandwidth-requires c κs =
     let q = c .before in
     let s = q .before .before .before .before .before in
-    let t = s .args .t .now in
     omega (
       arith,
-      ap length (bandwidth-text t (s .args .g .0) (s .pre .group) (q .quota .result) (c .period .result) (q .quota .ensures) (c .period .ensures)),
-      length-value t (s .args .g .0) (s .pre .group) CpuMax,
+      ap length (bandwidth-text _ _ (s .pre .group) _ _ (q .quota .ensures) (c .period .ensures)),
+      length-value _ _ (s .pre .group) CpuMax,
       s .pre .room,
     )
 
@@ -56,24 +65,23 @@ enum-known-s : tie.Need-enum-known-s
 enum-known-s c = search needs
 
 limit-requires : tie.Need-limit-requires
-limit-requires c κs = let r = c .before .before .before .before .before .pre .group in r .kept .formed .sound .range _ (r .live)
+limit-requires c κs = row (c .before .before .before .before .before)
 
 shown-limit-requires : tie.Need-shown-limit-requires
 shown-limit-requires c κs =
     let m = c .before .before .before in
     let s = m .before .before .before in
-    limit-range (s .args .t .now) (s .args .g .0) (s .pre .group) (m .s .given .0 .0) _ (c .limit .ensures)
+    limit-range _ _ (s .pre .group) (m .s .given .0 .0) _ (c .limit .ensures)
 
 put-limit-requires : tie.Need-put-limit-requires
 put-limit-requires c κs =
     let l = c .before in
     let m = l .before .before .before in
     let s = m .before .before .before in
-    let t = s .args .t .now in
     omega (
       arith,
-      ap length (limit-text t (s .args .g .0) (s .pre .group) (m .s .given .0 .0) (l .limit .result) (c .shown-limit .result) (l .limit .ensures) (c .shown-limit .ensures)),
-      length-value t (s .args .g .0) (s .pre .group) (Max (m .s .given .0 .0)),
+      ap length (limit-text _ _ (s .pre .group) (m .s .given .0 .0) _ _ (l .limit .ensures) (c .shown-limit .ensures)),
+      length-value _ _ (s .pre .group) (Max (m .s .given .0 .0)),
       s .pre .room,
     )
 
@@ -86,9 +94,8 @@ returns c =
     let w = c .before .before in
     let m = w .before .before .before in
     let s = m .before .before .before in
-    let t = s .args .t .now in
     wrote-as
-    (weight-text t (s .args .g .0) (s .pre .group) _ (w .before .weight .ensures) ∙ shows s (sym (m .enum-told .given .1)))
+    (weight-text _ _ (s .pre .group) _ (w .before .weight .ensures) ∙ shows s (sym (m .enum-told .given .1)))
     (w .put-number .ensures)
 
 same-length-2 : tie.Need-same-length-2
@@ -100,9 +107,8 @@ returns-2 c =
     let w = c .before .before in
     let m = w .before .before .before .before in
     let s = m .before .before .before in
-    let t = s .args .t .now in
     wrote-as
-    (bandwidth-text t (s .args .g .0) (s .pre .group) _ _ (w .before .before .quota .ensures) (w .before .period .ensures)
+    (bandwidth-text _ _ (s .pre .group) _ _ (w .before .before .quota .ensures) (w .before .period .ensures)
     ∙ shows s (sym (m .enum-told2 .given .1)))
     (w .put-bandwidth .ensures)
 
@@ -116,9 +122,8 @@ returns-3 c =
     let l = w .before .before in
     let m = l .before .before .before in
     let s = m .before .before .before in
-    let t = s .args .t .now in
     wrote-as
-    (limit-text t (s .args .g .0) (s .pre .group) _ _ _ (l .limit .ensures) (w .before .shown-limit .ensures)
+    (limit-text _ _ (s .pre .group) _ _ _ (l .limit .ensures) (w .before .shown-limit .ensures)
     ∙ shows s (sym (m .s .given .1)))
     (w .put-limit .ensures)
 
