@@ -1,0 +1,73 @@
+-- A call's promise, with its answer as a number and the values beside it as words. Assumes nothing.
+use Prim.Native.Nat.{ℕ}
+use mathlib.Core.List.{List, [], _∷_}
+use mathlib.Core.Path.{_≡_, ap, ap₂, sym, _∙_}
+use Rattle.model.specs.Checks.{answerNumber}
+use Rattle.model.specs.Hierarchy.{factsOf}
+use Rattle.model.specs.Files.{membershipLine}
+use Rattle.model.specs.Calls.{Call, charge, fork, read, membership, fileText, verdict}
+use Rattle.model.specs.Replies.{chargeAnswer, forkAnswer, roomNumber, roomGroup, roomCount, readNumber, readLength, reply, replyBy}
+use Rattle.model.specs.declared.Resource.the-variants.{Pages, Processes}
+use Rattle.model.specs.declared.Answer.{Answer}
+use Rattle.model.specs.declared.RoomAnswer.{RoomAnswer}
+use Rattle.model.specs.declared.ReadAnswer.{ReadAnswer}
+use Rattle.model.proofs.Books.{reply-number}
+use Rattle.tree.specs.Layout.{view}
+use Rattle.tree.specs.Calling.{Calling}
+use Rattle.files.specs.Reading.{Reading}
+use Rattle.shootspiral.specs.Interface.{groupWord, roomWords, Told}
+
+-- the same call with its answer told otherwise
+retold : {A B : Type 0} {xs ys : List ℕ} {c : Call} {a r : A} {b s : B} → Calling xs ys c a r → s ≡ b → Calling xs ys c b s
+retold k e = record { answer = e; tree = k .tree; kept = k .kept; same = k .same }
+
+pub plain-number : {xs ys : List ℕ} {c : Call} {a : Answer} {n : ℕ} → Calling xs ys c (verdict (view xs) c) a → n ≡ answerNumber a
+    → Calling xs ys c (reply (view xs) c .number) n
+plain-number {xs} {c = c} k e = retold k (e ∙ ap answerNumber (k .answer) ∙ sym (reply-number (view xs) c))
+
+pub charge-number : {xs ys : List ℕ} {p n : ℕ} {a : RoomAnswer} {m : ℕ} → Calling xs ys (charge p n) (chargeAnswer (factsOf (view xs)) p n) a
+    → m ≡ roomNumber Pages a → Calling xs ys (charge p n) (reply (view xs) (charge p n) .number) m
+unfolding reply replyBy
+charge-number k e = retold k (e ∙ ap (roomNumber Pages) (k .answer))
+
+pub fork-number : {xs ys : List ℕ} {p new : ℕ} {a : RoomAnswer} {m : ℕ} → Calling xs ys (fork p new) (forkAnswer (factsOf (view xs)) p new) a
+    → m ≡ roomNumber Processes a → Calling xs ys (fork p new) (reply (view xs) (fork p new) .number) m
+unfolding reply replyBy
+fork-number k e = retold k (e ∙ ap (roomNumber Processes) (k .answer))
+
+-- the two words that are told
+told-room : (a b : RoomAnswer) (g k : ℕ) → a ≡ b → g ≡ groupWord (roomGroup a) → k ≡ roomCount a → g ∷ k ∷ [] ≡ groupWord (roomGroup b) ∷ roomCount b ∷ []
+told-room a b g k e p q = ap₂ (λ x y. x ∷ y ∷ []) (p ∙ ap (λ x. groupWord (roomGroup x)) e) (q ∙ ap roomCount e)
+
+pub charge-told : {xs ys : List ℕ} {p n : ℕ} {a : RoomAnswer} (g k : ℕ) → Calling xs ys (charge p n) (chargeAnswer (factsOf (view xs)) p n) a
+    → g ≡ groupWord (roomGroup a) → k ≡ roomCount a → g ∷ k ∷ [] ≡ roomWords (reply (view xs) (charge p n))
+unfolding reply replyBy
+charge-told g k c p q = told-room _ _ g k (c .answer) p q
+
+pub fork-told : {xs ys : List ℕ} {p new : ℕ} {a : RoomAnswer} (g k : ℕ) → Calling xs ys (fork p new) (forkAnswer (factsOf (view xs)) p new) a
+    → g ≡ groupWord (roomGroup a) → k ≡ roomCount a → g ∷ k ∷ [] ≡ roomWords (reply (view xs) (fork p new))
+unfolding reply replyBy
+fork-told g k c p q = told-room _ _ g k (c .answer) p q
+
+-- texts
+pub read-told : {xs : List ℕ} {g : ℕ} {file old new : List ℕ} {a : ReadAnswer} (n k : ℕ)
+    → Reading xs (read g file old) (fileText (factsOf (view xs)) g file) old a new
+    → n ≡ readNumber a → k ≡ readLength a → Told (reply (view xs) (read g file old)) n (k ∷ []) new
+unfolding reply replyBy verdict
+read-told n k r e f =
+    record {
+      number = e ∙ ap readNumber (r .answer);
+      told = ap (λ x. x ∷ []) (f ∙ ap readLength (r .answer));
+      buffer = r .buffer;
+    }
+
+pub membership-told : {xs : List ℕ} {p : ℕ} {old new : List ℕ} {a : ReadAnswer} (n k : ℕ)
+    → Reading xs (membership p old) (membershipLine (view xs) p) old a new
+    → n ≡ readNumber a → k ≡ readLength a → Told (reply (view xs) (membership p old)) n (k ∷ []) new
+unfolding reply replyBy verdict
+membership-told n k r e f =
+    record {
+      number = e ∙ ap readNumber (r .answer);
+      told = ap (λ x. x ∷ []) (f ∙ ap readLength (r .answer));
+      buffer = r .buffer;
+    }

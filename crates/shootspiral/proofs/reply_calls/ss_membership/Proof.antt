@@ -1,0 +1,27 @@
+-- `shootspiral::reply_calls::ss_membership` meets its contract. Assumes nothing.
+use Rattle.shootspiral.proofs.InterfaceLaws.{membership-told}
+use borrow.Author.Needs.{needs}
+use Rattle.shootspiral.proofs.reply_calls.ss_membership.Statement.{statement}
+use Rattle.shootspiral.proofs.reply_calls.ss_membership.Tie as tie
+
+membership-requires : tie.Need-membership-requires
+membership-requires c κs = search needs
+
+read-length-requires : tie.Need-read-length-requires
+read-length-requires c κs = search needs
+
+read-number-requires : tie.Need-read-number-requires
+read-number-requires c κs = search needs
+
+same-length : tie.Need-same-length
+same-length c = search needs
+
+returns : tie.Need-returns
+returns c =
+    let k = c .before .before in
+    membership-told _ _ (k .before .before .before .membership .ensures) (c .read-number .ensures) (k .read-length .ensures)
+
+pub ss-membership-spec : {M : Type 1} → statement M
+ss-membership-spec =
+    tie.close
+    (tie.spec membership-requires read-length-requires read-number-requires same-length returns)

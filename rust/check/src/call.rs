@@ -1,0 +1,207 @@
+//! A call as a value, what a host answers to it, and both as text.
+
+use std::fmt;
+
+use crate::calls::Calls;
+
+/// One call with its arguments. A read or a membership line gets a reply buffer of `room` bytes.
+#[derive(Clone, PartialEq, Eq)]
+pub enum Call {
+    Make { user: u32, parent: u64, group: u64 },
+    Remove { user: u32, group: u64 },
+    HandOver { user: u32, group: u64, owner: u32 },
+    WriteProcs { user: u32, group: u64, line: Vec<u8> },
+    WriteSubtreeControl { user: u32, group: u64, line: Vec<u8> },
+    WriteSetting { user: u32, group: u64, file: Vec<u8>, line: Vec<u8> },
+    Admit { process: u64, user: u32 },
+    Fork { parent: u64, process: u64 },
+    Exit { process: u64 },
+    Charge { process: u64, pages: u64 },
+    Release { group: u64, pages: u64 },
+    Read { group: u64, file: Vec<u8>, room: usize },
+    Membership { process: u64, room: usize },
+    FirstBadWord { line: Vec<u8> },
+}
+
+/// The number of bytes after a reply buffer, and of words after `told`, that no call may write.
+const MARGIN: usize = 16;
+const UNTOLD: u64 = 0x7e11_7e11_7e11_7e11;
+
+/// All that a call leaves in its caller's hands: the number, `told` and what stands after it, the
+/// reply buffer and what stands after it.
+#[derive(Clone, PartialEq, Eq)]
+pub struct Answer {
+    pub number: u32,
+    pub told: [u64; 4],
+    pub reply: Vec<u8>,
+    fill: u8,
+}
+
+impl Call {
+    /// The call's name, as the table of counts and the C interface spell it.
+    pub fn name(&self) -> &'static str {
+        match self {
+            Call::Make { .. } => "make",
+            Call::Remove { .. } => "remove",
+            Call::HandOver { .. } => "hand_over",
+            Call::WriteProcs { .. } => "write_procs",
+            Call::WriteSubtreeControl { .. } => "write_subtree_control",
+            Call::WriteSetting { .. } => "write_setting",
+            Call::Admit { .. } => "admit",
+            Call::Fork { .. } => "fork",
+            Call::Exit { .. } => "exit",
+            Call::Charge { .. } => "charge",
+            Call::Release { .. } => "release",
+            Call::Read { .. } => "read",
+            Call::Membership { .. } => "membership",
+            Call::FirstBadWord { .. } => "first_bad_word",
+        }
+    }
+
+    /// Whether the call changes no tree, whatever it answers.
+    pub fn is_question(&self) -> bool {
+        matches!(self, Call::Read { .. } | Call::Membership { .. } | Call::FirstBadWord { .. })
+    }
+
+    /// Makes the call. `fill` picks the bytes that the reply buffer holds before.
+    pub fn on<H: Calls>(&self, host: &mut H, fill: u8) -> Answer {
+        let mut told = [UNTOLD; 4];
+        let mut reply = vec![];
+        let number = match self {
+            Call::Make { user, parent, group } => host.make(*user, *parent, *group),
+            Call::Remove { user, group } => host.remove(*user, *group),
+            Call::HandOver { user, group, owner } => host.hand_over(*user, *group, *owner),
+            Call::WriteProcs { user, group, line } => host.write_procs(*user, *group, line),
+            Call::WriteSubtreeControl { user, group, line } => {
+                host.write_subtree_control(*user, *group, line)
+            }
+            Call::WriteSetting { user, group, file, line } => {
+                host.write_setting(*user, *group, file, line)
+            }
+            Call::Admit { process, user } => host.admit(*process, *user),
+            Call::Fork { parent, process } => host.fork(*parent, *process, front(&mut told)),
+            Call::Exit { process } => host.exit(*process),
+            Call::Charge { process, pages } => host.charge(*process, *pages, front(&mut told)),
+            Call::Release { group, pages } => host.release(*group, *pages),
+            Call::Read { group, file, room } => {
+                reply = filled(*room, fill);
+                host.read(*group, file, &mut reply[..*room], front(&mut told))
+            }
+            Call::Membership { process, room } => {
+                reply = filled(*room, fill);
+                host.membership(*process, &mut reply[..*room], front(&mut told))
+            }
+            Call::FirstBadWord { line } => {
+                H::first_bad_word(line, front(&mut told));
+                0
+            }
+        };
+        Answer { number, told, reply, fill }
+    }
+}
+
+fn front<const N: usize>(told: &mut [u64; 4]) -> &mut [u64; N] {
+    told.first_chunk_mut().expect("no call tells more than two words")
+}
+
+/// A reply buffer and its margin before the call.
+fn filled(room: usize, fill: u8) -> Vec<u8> {
+    (0..room + MARGIN).map(|place| filling(place, fill)).collect()
+}
+
+/// Neighbours differ, and no byte is one that a text would hold.
+fn filling(place: usize, fill: u8) -> u8 {
+    0x80 | fill.wrapping_add(place as u8)
+}
+
+/// As it is written in a test of `tests/lists.rs`.
+impl fmt::Display for Call {
+    fn fmt(&self, f: &mut fmt::Formatter<'_>) -> fmt::Result {
+        match self {
+            Call::Make { user, parent, group } => {
+                write!(f, "Make {{ user: {user}, parent: {parent}, group: {group} }}")
+            }
+            Call::Remove { user, group } => write!(f, "Remove {{ user: {user}, group: {group} }}"),
+            Call::HandOver { user, group, owner } => {
+                write!(f, "HandOver {{ user: {user}, group: {group}, owner: {owner} }}")
+            }
+            Call::WriteProcs { user, group, line } => {
+                let line = Bytes(line);
+                write!(f, "WriteProcs {{ user: {user}, group: {group}, line: {line}.to_vec() }}")
+            }
+            Call::WriteSubtreeControl { user, group, line } => {
+                let line = Bytes(line);
+                write!(f, "WriteSubtreeControl {{ user: {user}, group: {group}, ")?;
+                write!(f, "line: {line}.to_vec() }}")
+            }
+            Call::WriteSetting { user, group, file, line } => {
+                let (file, line) = (Bytes(file), Bytes(line));
+                write!(f, "WriteSetting {{ user: {user}, group: {group}, ")?;
+                write!(f, "file: {file}.to_vec(), line: {line}.to_vec() }}")
+            }
+            Call::Admit { process, user } => {
+                write!(f, "Admit {{ process: {process}, user: {user} }}")
+            }
+            Call::Fork { parent, process } => {
+                write!(f, "Fork {{ parent: {parent}, process: {process} }}")
+            }
+            Call::Exit { process } => write!(f, "Exit {{ process: {process} }}"),
+            Call::Charge { process, pages } => {
+                write!(f, "Charge {{ process: {process}, pages: {pages} }}")
+            }
+            Call::Release { group, pages } => {
+                write!(f, "Release {{ group: {group}, pages: {pages} }}")
+            }
+            Call::Read { group, file, room } => {
+                let file = Bytes(file);
+                write!(f, "Read {{ group: {group}, file: {file}.to_vec(), room: {room} }}")
+            }
+            Call::Membership { process, room } => {
+                write!(f, "Membership {{ process: {process}, room: {room} }}")
+            }
+            Call::FirstBadWord { line } => {
+                write!(f, "FirstBadWord {{ line: {}.to_vec() }}", Bytes(line))
+            }
+        }
+    }
+}
+
+impl fmt::Debug for Call {
+    fn fmt(&self, f: &mut fmt::Formatter<'_>) -> fmt::Result {
+        fmt::Display::fmt(self, f)
+    }
+}
+
+/// The number, then what was told, then the reply buffer up to the last byte that was touched.
+impl fmt::Display for Answer {
+    fn fmt(&self, f: &mut fmt::Formatter<'_>) -> fmt::Result {
+        write!(f, "{}", self.number)?;
+        let told = self.told.iter().rposition(|&word| word != UNTOLD).map_or(0, |last| last + 1);
+        if told > 0 {
+            write!(f, ", told {:?}", &self.told[..told])?;
+        }
+        if !self.reply.is_empty() {
+            let mut bytes = self.reply.iter().enumerate();
+            let touched = bytes.rposition(|(place, &byte)| byte != filling(place, self.fill));
+            let touched = &self.reply[..touched.map_or(0, |last| last + 1)];
+            let room = self.reply.len() - MARGIN;
+            write!(f, ", wrote {} to a buffer of {room}", Bytes(touched))?;
+        }
+        Ok(())
+    }
+}
+
+impl fmt::Debug for Answer {
+    fn fmt(&self, f: &mut fmt::Formatter<'_>) -> fmt::Result {
+        fmt::Display::fmt(self, f)
+    }
+}
+
+/// Bytes as a literal of Rust.
+pub struct Bytes<'a>(pub &'a [u8]);
+
+impl fmt::Display for Bytes<'_> {
+    fn fmt(&self, f: &mut fmt::Formatter<'_>) -> fmt::Result {
+        write!(f, "b\"{}\"", self.0.escape_ascii())
+    }
+}

@@ -1,0 +1,228 @@
+//! The model beside a host, call by call. After every call all that can be read is compared: the
+//! answer, what was told, the reply buffer and the bytes after it, every file of every group and
+//! every membership line.
+
+use std::fmt;
+
+use crate::call::{Answer, Call};
+use crate::calls::Calls;
+use crate::fault::Fault;
+use crate::model::Model;
+
+/// Every file that a group can have, and one that none has.
+pub const FILES: [&[u8]; 11] = [
+    b"cgroup.procs",
+    b"cgroup.controllers",
+    b"cgroup.subtree_control",
+    b"cgroup.events",
+    b"memory.current",
+    b"memory.max",
+    b"pids.current",
+    b"pids.max",
+    b"cpu.weight",
+    b"cpu.max",
+    b"cgroup.type",
+];
+
+/// More than the longest reply, with bytes to spare after it; and the bytes after such a buffer.
+const ROOM: usize = 960;
+const MARGIN: usize = 16;
+const FILL: u8 = 0xee;
+
+/// What was found to differ after a call.
+#[derive(Clone, PartialEq, Eq)]
+pub enum Difference {
+    /// The call itself was answered otherwise.
+    Answer { expected: Answer, found: Answer },
+    /// The question, asked after the call, was answered otherwise.
+    Later { question: Call, expected: Answer, found: Answer },
+    /// The call was a refusal or a question, and the tree is another.
+    Changed,
+    /// The host wrote outside its tree.
+    Outside,
+}
+
+/// The model and a host that were given the same calls.
+#[derive(Clone)]
+pub struct Pair<H> {
+    pub model: Model,
+    pub host: H,
+    /// Why the model refused the last call, in the paper's words.
+    pub cause: &'static str,
+    calls: u8,
+    buffers: [Vec<u8>; 2],
+}
+
+impl<H: Calls> Pair<H> {
+    pub fn fresh(machine: u64, fault: Option<Fault>) -> Pair<H> {
+        Pair {
+            model: Model::with_fault(machine, fault),
+            host: H::fresh(machine),
+            cause: "",
+            calls: 0,
+            buffers: [vec![FILL; ROOM + MARGIN], vec![FILL; ROOM + MARGIN]],
+        }
+    }
+
+    /// Makes a call on both and compares all that can be read after it. Answers the number that
+    /// the model gave.
+    pub fn step(&mut self, call: &Call) -> Result<u32, Box<Difference>> {
+        let number = self.answer(call)?;
+        self.survey()?;
+        Ok(number)
+    }
+
+    /// Makes a call on both and compares the answers only.
+    pub fn answer(&mut self, call: &Call) -> Result<u32, Box<Difference>> {
+        self.calls = self.calls.wrapping_add(1);
+        let expected = call.on(&mut self.model, self.calls);
+        self.cause = if expected.number == 0 { "" } else { self.model.cause() };
+        let stays = expected.number != 0 || call.is_question();
+        let before = stays.then(|| self.host.memory().to_vec());
+        let found = call.on(&mut self.host, self.calls);
+        if expected != found {
+            return Err(Box::new(Difference::Answer { expected, found }));
+        }
+        if !self.host.is_contained() {
+            return Err(Box::new(Difference::Outside));
+        }
+        if before.is_some_and(|before| before != self.host.memory()) {
+            return Err(Box::new(Difference::Changed));
+        }
+        Ok(expected.number)
+    }
+
+    /// Reads every file of every group and every membership line, the numbers just outside the
+    /// range included.
+    fn survey(&mut self) -> Result<(), Box<Difference>> {
+        for group in 0..=64 {
+            for file in FILES {
+                let read = |host: &dyn Reads, reply: &mut [u8], told: &mut [u64; 1]| {
+                    host.read_file(group, file, reply, told)
+                };
+                if !self.alike(read) {
+                    let file = file.to_vec();
+                    return Err(self.later(Call::Read { group, file, room: ROOM }));
+                }
+            }
+        }
+        for process in 0..=257 {
+            let read = |host: &dyn Reads, reply: &mut [u8], told: &mut [u64; 1]| {
+                host.membership_line(process, reply, told)
+            };
+            if !self.alike(read) {
+                return Err(self.later(Call::Membership { process, room: ROOM }));
+            }
+        }
+        Ok(())
+    }
+
+    /// Whether both answer a reading alike, every byte of the buffers included.
+    fn alike(&mut self, read: impl Fn(&dyn Reads, &mut [u8], &mut [u64; 1]) -> u32) -> bool {
+        let [expected, found] = &mut self.buffers;
+        let (mut expected_told, mut found_told) = ([u64::MAX], [u64::MAX]);
+        let expected_number = read(&self.model, &mut expected[..ROOM], &mut expected_told);
+        let found_number = read(&self.host, &mut found[..ROOM], &mut found_told);
+        let alike =
+            expected_number == found_number && expected_told == found_told && expected == found;
+        // What the model wrote is filled again; a host that wrote more was not alike.
+        let written = (expected_told[0] as usize).min(ROOM - 1) + 1;
+        expected[..written].fill(FILL);
+        found[..written].fill(FILL);
+        alike
+    }
+
+    fn later(&mut self, question: Call) -> Box<Difference> {
+        let expected = question.on(&mut self.model, self.calls);
+        let found = question.on(&mut self.host, self.calls);
+        Box::new(Difference::Later { question, expected, found })
+    }
+
+    /// Calls that bring out what no file shows: owners, own pages, the users of processes. To be
+    /// made on a copy.
+    pub fn probes(&self) -> Vec<Call> {
+        let mut probes = vec![];
+        for group in self.model.live_groups() {
+            let kept = self.model.group(group).expect("a live group");
+            for user in [kept.owner, kept.owner.wrapping_add(1).max(1)] {
+                probes.push(Call::WriteSubtreeControl { user, group, line: vec![] });
+            }
+            for pages in [kept.own_pages + 1, kept.own_pages] {
+                if (1..=1_048_576).contains(&pages) {
+                    probes.push(Call::Release { group, pages });
+                }
+            }
+        }
+        for process in self.model.live_processes() {
+            let kept = self.model.process(process).expect("a live process");
+            if kept.group != 0 {
+                let (user, group) = (kept.user, kept.group);
+                let line = process.to_string().into_bytes();
+                probes.push(Call::HandOver { user: 0, group, owner: user });
+                probes.push(Call::WriteProcs { user, group, line });
+            }
+        }
+        probes
+    }
+}
+
+/// The readings of [`Calls`] alone, so that one piece of code asks model and host.
+trait Reads {
+    fn read_file(&self, group: u64, file: &[u8], reply: &mut [u8], told: &mut [u64; 1]) -> u32;
+    fn membership_line(&self, process: u64, reply: &mut [u8], told: &mut [u64; 1]) -> u32;
+}
+
+impl<H: Calls> Reads for H {
+    fn read_file(&self, group: u64, file: &[u8], reply: &mut [u8], told: &mut [u64; 1]) -> u32 {
+        self.read(group, file, reply, told)
+    }
+
+    fn membership_line(&self, process: u64, reply: &mut [u8], told: &mut [u64; 1]) -> u32 {
+        self.membership(process, reply, told)
+    }
+}
+
+/// Makes the calls from a fresh tree. Answers the first call after which something differs, and
+/// what.
+pub fn replay<H: Calls>(
+    machine: u64,
+    calls: &[Call],
+    fault: Option<Fault>,
+) -> Option<(usize, Box<Difference>)> {
+    let mut pair = Pair::<H>::fresh(machine, fault);
+    for (place, call) in calls.iter().enumerate() {
+        if let Err(difference) = pair.step(call) {
+            return Some((place, difference));
+        }
+    }
+    None
+}
+
+/// Panics unless the host answers as the model does, call by call: for tests.
+pub fn agree<H: Calls>(machine: u64, calls: &[Call]) {
+    if let Some((place, difference)) = replay::<H>(machine, calls, None) {
+        panic!("call {place}, {}: {difference}", calls[place]);
+    }
+}
+
+impl fmt::Display for Difference {
+    fn fmt(&self, f: &mut fmt::Formatter<'_>) -> fmt::Result {
+        match self {
+            Difference::Answer { expected, found } => {
+                write!(f, "the model answers\n    {expected}\nand the host\n    {found}")
+            }
+            Difference::Later { question, expected, found } => {
+                write!(f, "after it, to {question}, the model answers\n    {expected}\n")?;
+                write!(f, "and the host\n    {found}")
+            }
+            Difference::Changed => f.write_str("a refusal or a question changed the host's tree"),
+            Difference::Outside => f.write_str("the host wrote outside its tree"),
+        }
+    }
+}
+
+impl fmt::Debug for Difference {
+    fn fmt(&self, f: &mut fmt::Formatter<'_>) -> fmt::Result {
+        fmt::Display::fmt(self, f)
+    }
+}

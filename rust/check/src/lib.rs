@@ -1,0 +1,26 @@
+//! Compares Shootspiral with a plain model of document 01: the same calls to both, and after every
+//! call the same answer, the same reply buffer and the same readable tree.
+//!
+//! - [`model`]: the paper as a plain program, every figure worked out by its definition
+//! - [`linked`]: the proved host, behind the C interface
+//! - [`calls`], [`call`]: what both answer, as a trait and as a value
+//! - [`generate`]: lists of calls from a seed
+//! - [`compare`], [`explore`]: one list, and many
+//! - [`shrink`]: a short list from a long one
+//! - [`fault`]: faults for the model, to show that the comparison finds them
+
+pub mod call;
+pub mod calls;
+pub mod compare;
+pub mod explore;
+pub mod fault;
+pub mod generate;
+pub mod linked;
+pub mod model;
+mod random;
+pub mod shrink;
+
+pub use call::Call;
+pub use calls::Calls;
+pub use compare::agree;
+pub use linked::Linked;

@@ -1,0 +1,384 @@
+//! Points at which a reader of document 01 may stumble, as rows: what is written, and the answer.
+//! Asked of the model and of the proved host.
+
+use shootspiral_check::model::Model;
+use shootspiral_check::{Calls, Linked};
+
+/// A test of this name for the model, and one for the proved host.
+macro_rules! both {
+    ($($name:ident)*) => {
+        mod model {
+            $(#[test]
+            fn $name() {
+                super::$name::<super::Model>();
+            })*
+        }
+        mod linked {
+            $(#[test]
+            fn $name() {
+                super::$name::<super::Linked>();
+            })*
+        }
+    };
+}
+
+both! {
+    lines_for_procs
+    lines_for_control
+    long_lines
+    settings
+    cpu_max
+    order_of_checks
+    reset
+    moves_and_limits
+    empty_replies
+    machine_sizes
+    owners
+}
+
+fn shown<H: Calls>(host: &H, group: u64, file: &str) -> String {
+    let (mut reply, mut told) = ([b'.'; 1000], [0]);
+    assert_eq!(host.read(group, file.as_bytes(), &mut reply, &mut told), 0, "{group} {file}");
+    String::from_utf8(reply[..told[0] as usize].to_vec()).unwrap()
+}
+
+fn lines_for_procs<H: Calls>() {
+    let mut host = H::fresh(1024);
+    host.make(0, 0, 1);
+    for process in [5, 255, 256] {
+        host.admit(process, 0);
+    }
+    let forty = [&[b'0'; 39][..], b"5"].concat();
+    for (line, number) in [
+        (b"5".as_slice(), 0),
+        (b"5\n", 0),
+        (b"  5  \n", 0),
+        (b"005", 0),
+        (&forty, 0),
+        (b"256", 0),
+        (b"257", 3),
+        (b"6", 3),
+        (b"4294967301", 3),
+        (b"18446744073709551621", 3),
+        (b"340282366920938463463374607431768211461", 3),
+        (b"9999999999999999999999999999999999999999", 3),
+        (b"0", 22),
+        (b"000", 22),
+        (b"", 22),
+        (b"\n", 22),
+        (b" ", 22),
+        (b"5\n\n", 22),
+        (b"5\r\n", 22),
+        (b"5\t", 22),
+        (b"5\0", 22),
+        (b"\xff5", 22),
+        (b"5 255", 22),
+        (b"5 x", 22),
+        (b"+5", 22),
+        (b"-5", 22),
+        (b"0x5", 22),
+        (b"5.0", 22),
+        (b"max", 22),
+    ] {
+        assert_eq!(host.write_procs(0, 1, line), number, "{}", line.escape_ascii());
+    }
+}
+
+///     0  set: memory
+///     └ 1
+fn lines_for_control<H: Calls>() {
+    for (line, number) in [
+        (b"".as_slice(), 0),
+        (b"\n", 0),
+        (b"   \n", 0),
+        (b"\n\n", 22),
+        (b"+memory", 0),
+        (b"  +memory   -memory", 0),
+        (b"-pids", 0),
+        (b"+pids -pids", 0),
+        (b"-pids +pids", 2),
+        (b"+cpu", 2),
+        (b"+cpu x", 22),
+        (b"+", 22),
+        (b"-", 22),
+        (b"memory", 22),
+        (b"++memory", 22),
+        (b"+memory+memory", 22),
+        (b"+MEMORY", 22),
+        (b"+memory\t-memory", 22),
+        (b"+memory\0", 22),
+        (b"+io", 22),
+    ] {
+        let mut host = H::fresh(1024);
+        host.write_subtree_control(0, 0, b"+memory");
+        host.make(0, 0, 1);
+        assert_eq!(host.write_subtree_control(0, 1, line), number, "{}", line.escape_ascii());
+    }
+}
+
+fn long_lines<H: Calls>() {
+    let mut host = H::fresh(1024);
+    host.make(0, 0, 1);
+    host.admit(5, 0);
+    let digits = |length: usize, end: &[u8]| [&vec![b'0'; length - 1], &b"5"[..], end].concat();
+    for (line, number) in [
+        (digits(127, b"\n"), 0),
+        (digits(128, b""), 0),
+        (digits(128, b"\n"), 22),
+        (digits(129, b""), 22),
+        (digits(300, b""), 22),
+    ] {
+        assert_eq!(host.write_procs(0, 1, &line), number, "{}", line.len());
+        assert_eq!(host.write_procs(7, 1, &line), 13, "{}", line.len());
+    }
+    for (length, number) in [(127, 0), (128, 0), (129, 22), (300, 22)] {
+        assert_eq!(host.write_subtree_control(0, 0, &vec![b' '; length]), number, "{length}");
+    }
+}
+
+fn settings<H: Calls>() {
+    let mut host = H::fresh(1024);
+    host.make(0, 0, 1);
+    host.write_subtree_control(0, 0, b"+cpu +memory +pids");
+    for (file, line, number) in [
+        ("memory.max", "4095", 0),
+        ("memory.max", "00004096", 0),
+        ("memory.max", "4503599627370496", 0),
+        ("memory.max", "4503599627370497", 34),
+        ("memory.max", "18446744073709551616", 34),
+        ("memory.max", "18446744073709551617", 34),
+        ("memory.max", "", 22),
+        ("memory.max", "max max", 22),
+        ("memory.max", "MAX", 22),
+        ("memory.max", "-1", 22),
+        ("memory.max", "1e3", 22),
+        ("memory.max", "4K", 22),
+        ("pids.max", "4194304", 0),
+        ("pids.max", "4194305", 34),
+        ("pids.max", "0", 0),
+        ("pids.max", "max", 0),
+        ("cpu.weight", "max", 22),
+        ("cpu.weight", "100\n\n", 22),
+        ("memory.current", "1", 2),
+        ("cgroup.procs", "1", 2),
+        ("memory.max\n", "1", 2),
+        ("memory.ma", "1", 2),
+        ("", "1", 2),
+    ] {
+        let (file, line) = (file.as_bytes(), line.as_bytes());
+        let asked = format!("{} {}", file.escape_ascii(), line.escape_ascii());
+        assert_eq!(host.write_setting(0, 1, file, line), number, "{asked}");
+        assert_eq!(host.write_setting(0, 0, file, line), 2, "{asked}");
+    }
+}
+
+fn cpu_max<H: Calls>() {
+    let mut host = H::fresh(1024);
+    host.make(0, 0, 1);
+    host.write_subtree_control(0, 0, b"+cpu");
+    assert_eq!(shown(&host, 1, "cpu.max"), "max 100000\n");
+    for (line, number, after) in [
+        ("1000 1000", 0, "1000 1000\n"),
+        ("max", 0, "max 1000\n"),
+        ("1000000000 1000000\n", 0, "1000000000 1000000\n"),
+        ("5000 ", 0, "5000 1000000\n"),
+        (" 5000   2000 ", 0, "5000 2000\n"),
+        ("5 x", 22, "5000 2000\n"),
+        ("5 5", 34, "5000 2000\n"),
+        ("999", 34, "5000 2000\n"),
+        ("1000 999", 34, "5000 2000\n"),
+        ("1000 1000001", 34, "5000 2000\n"),
+        ("1000000001", 34, "5000 2000\n"),
+        ("max max", 22, "5000 2000\n"),
+        ("max 1000 1000", 22, "5000 2000\n"),
+        ("", 22, "5000 2000\n"),
+        ("max 3000", 0, "max 3000\n"),
+    ] {
+        assert_eq!(host.write_setting(0, 1, b"cpu.max", line.as_bytes()), number, "{line}");
+        assert_eq!(shown(&host, 1, "cpu.max"), after, "{line}");
+    }
+}
+
+/// Where two checks fail, the one that the paper names first is the answer.
+fn order_of_checks<H: Calls>() {
+    let mut host = H::fresh(1024);
+    for group in 1..=8 {
+        host.make(0, group - 1, group);
+    }
+    host.make(0, 0, 20);
+    host.write_subtree_control(0, 0, b"+memory +pids");
+    host.admit(5, 1000);
+    host.write_procs(0, 20, b"5");
+
+    assert_eq!(host.make(0, 30, 64), 22);
+    assert_eq!(host.make(7, 30, 1), 2);
+    assert_eq!(host.make(7, 30, 30), 2);
+    assert_eq!(host.make(7, 8, 1), 17);
+    assert_eq!(host.make(7, 8, 8), 17);
+    assert_eq!(host.make(0, 1, 0), 17);
+    assert_eq!(host.make(7, 8, 9), 13);
+    assert_eq!(host.make(0, 8, 9), 11);
+
+    assert_eq!(host.remove(7, 64), 22);
+    assert_eq!(host.remove(7, 30), 2);
+    assert_eq!(host.remove(7, 0), 13);
+    assert_eq!(host.remove(0, 0), 16);
+    assert_eq!(host.remove(7, 1), 13);
+    assert_eq!(host.remove(0, 1), 16);
+
+    assert_eq!(host.hand_over(7, 0, 7), 22);
+    assert_eq!(host.hand_over(7, 30, 7), 2);
+    assert_eq!(host.hand_over(7, 1, 7), 13);
+
+    assert_eq!(host.write_procs(7, 64, b"x"), 22);
+    assert_eq!(host.write_procs(7, 30, b"x"), 2);
+    assert_eq!(host.write_procs(7, 1, b"x"), 13);
+    host.write_subtree_control(0, 1, b"+memory");
+    host.hand_over(0, 1, 7);
+    assert_eq!(host.write_procs(7, 1, b"x"), 22);
+    assert_eq!(host.write_procs(7, 1, b"6"), 3);
+    assert_eq!(host.write_procs(7, 1, b"5"), 13);
+    assert_eq!(host.write_procs(0, 1, b"5"), 16);
+
+    assert_eq!(host.write_subtree_control(0, 20, b"+cpu x"), 22);
+    assert_eq!(host.write_subtree_control(0, 20, b"+cpu +memory"), 2);
+    assert_eq!(host.write_subtree_control(0, 20, b"+memory"), 16);
+    assert_eq!(host.write_subtree_control(0, 20, b"-memory"), 0);
+    assert_eq!(host.write_subtree_control(0, 0, b"-memory +pids"), 16);
+
+    assert_eq!(host.write_setting(7, 64, b"x", b"x"), 22);
+    assert_eq!(host.write_setting(7, 30, b"x", b"x"), 2);
+    assert_eq!(host.write_setting(7, 20, b"cpu.max", b"x"), 2);
+    assert_eq!(host.write_setting(7, 20, b"pids.max", b"x"), 13);
+    assert_eq!(host.write_setting(0, 20, b"pids.max", b"x"), 22);
+
+    let mut told = [0; 2];
+    assert_eq!(host.fork(0, 0, &mut told), 3);
+    assert_eq!(host.fork(300, 300, &mut told), 3);
+    assert_eq!(host.fork(5, 0, &mut told), 22);
+    assert_eq!(host.fork(5, 5, &mut told), 17);
+    assert_eq!(host.charge(0, 0, &mut told), 3);
+    assert_eq!(host.charge(5, 0, &mut told), 22);
+    assert_eq!(host.charge(5, 1_048_577, &mut told), 22);
+    assert_eq!(host.exit(0), 3);
+    assert_eq!(host.exit(257), 3);
+    assert_eq!(host.admit(0, 0), 22);
+    assert_eq!(host.admit(257, 0), 22);
+    assert_eq!(host.admit(5, 0), 17);
+    assert_eq!(host.release(64, 0), 22);
+    assert_eq!(host.release(30, 0), 22);
+    assert_eq!(host.release(30, 1), 2);
+    assert_eq!(host.release(20, 1), 34);
+
+    let mut length = [0];
+    assert_eq!(host.read(64, b"x", &mut [], &mut length), 22);
+    assert_eq!(host.read(30, b"x", &mut [], &mut length), 2);
+    assert_eq!(host.read(0, b"cgroup.events", &mut [], &mut length), 2);
+    assert_eq!(host.read(20, b"cpu.max", &mut [], &mut length), 2);
+    assert_eq!(host.read(20, b"pids.max", &mut [], &mut length), 28);
+    assert_eq!(host.membership(257, &mut [], &mut length), 3);
+    assert_eq!(host.membership(5, &mut [], &mut length), 28);
+}
+
+/// A controller that leaves resets its settings in all children; one that only seems to does not.
+fn reset<H: Calls>() {
+    let mut host = H::fresh(1024);
+    host.make(0, 0, 1);
+    host.write_subtree_control(0, 0, b"+cpu +memory +pids");
+    host.write_setting(0, 1, b"cpu.weight", b"7");
+    host.write_setting(0, 1, b"cpu.max", b"2000 3000");
+    host.write_setting(0, 1, b"memory.max", b"8192");
+    host.write_setting(0, 1, b"pids.max", b"3");
+    assert_eq!(host.write_subtree_control(0, 0, b"-cpu +cpu"), 0);
+    assert_eq!(shown(&host, 1, "cpu.weight"), "7\n");
+    assert_eq!(shown(&host, 1, "cpu.max"), "2000 3000\n");
+    assert_eq!(host.write_subtree_control(0, 0, b"-cpu -pids"), 0);
+    assert_eq!(host.write_subtree_control(0, 0, b"+cpu +pids"), 0);
+    assert_eq!(shown(&host, 1, "cpu.weight"), "100\n");
+    assert_eq!(shown(&host, 1, "cpu.max"), "max 100000\n");
+    assert_eq!(shown(&host, 1, "pids.max"), "max\n");
+    assert_eq!(shown(&host, 1, "memory.max"), "8192\n");
+}
+
+/// A limit below present usage is accepted and stops charges and forks; it does not stop a move,
+/// and pages do not move along.
+fn moves_and_limits<H: Calls>() {
+    let mut host = H::fresh(1024);
+    host.make(0, 0, 1);
+    host.make(0, 0, 2);
+    host.write_subtree_control(0, 0, b"+memory +pids");
+    for process in [5, 6] {
+        host.admit(process, 0);
+        assert_eq!(host.write_procs(0, process - 4, process.to_string().as_bytes()), 0);
+    }
+    let mut told = [0; 2];
+    assert_eq!(host.charge(5, 3, &mut told), 0);
+    assert_eq!(host.write_setting(0, 1, b"memory.max", b"0"), 0);
+    assert_eq!(host.write_setting(0, 1, b"pids.max", b"0"), 0);
+    assert_eq!((host.charge(5, 1, &mut told), told), (12, [1, 1]));
+    assert_eq!((host.fork(5, 7, &mut told), told), (11, [1, 1]));
+    assert_eq!(host.write_procs(0, 1, b"6"), 0);
+    assert_eq!(shown(&host, 1, "pids.current"), "2\n");
+    assert_eq!(host.write_procs(0, 2, b"5"), 0);
+    assert_eq!(shown(&host, 1, "memory.current"), "12288\n");
+    assert_eq!(shown(&host, 2, "memory.current"), "0\n");
+    assert_eq!(host.release(1, 3), 0);
+    assert_eq!((host.charge(6, 1, &mut told), told), (12, [1, 1]));
+    assert_eq!((host.charge(5, 1, &mut told), told), (0, [u64::MAX, 2]));
+}
+
+fn empty_replies<H: Calls>() {
+    let mut host = H::fresh(1024);
+    host.make(0, 0, 1);
+    for (group, file) in [
+        (0, "cgroup.procs"),
+        (0, "cgroup.subtree_control"),
+        (1, "cgroup.controllers"),
+        (1, "cgroup.subtree_control"),
+    ] {
+        let mut told = [77];
+        assert_eq!(host.read(group, file.as_bytes(), &mut [], &mut told), 0, "{file}");
+        assert_eq!(told, [0], "{file}");
+    }
+    assert_eq!(shown(&host, 1, "cgroup.events"), "populated 0\n");
+    host.make(0, 1, 2);
+    host.admit(5, 0);
+    host.write_procs(0, 2, b"5");
+    assert_eq!(shown(&host, 1, "cgroup.events"), "populated 1\n");
+    assert_eq!(shown(&host, 1, "cgroup.procs"), "");
+}
+
+fn machine_sizes<H: Calls>() {
+    let mut told = [0; 2];
+    let mut none = H::fresh(0);
+    none.admit(1, 0);
+    assert_eq!((none.charge(1, 1, &mut told), told), (12, [0, 1]));
+    for size in [1 << 40, (1 << 40) + 1, u64::MAX] {
+        let mut host = H::fresh(size);
+        host.admit(1, 0);
+        for _ in 0..1 << 20 {
+            assert_eq!(host.charge(1, 1 << 20, &mut told), 0);
+        }
+        assert_eq!((host.charge(1, 1, &mut told), told), (12, [0, 1]));
+    }
+}
+
+/// An owner may write his group, not its settings; what user 0 makes is user 0's.
+fn owners<H: Calls>() {
+    let mut host = H::fresh(1024);
+    host.make(0, 0, 1);
+    host.write_subtree_control(0, 0, b"+memory");
+    host.hand_over(0, 1, 7);
+    assert_eq!(host.write_setting(7, 1, b"memory.max", b"max"), 13);
+    assert_eq!(host.remove(7, 1), 13);
+    assert_eq!(host.make(7, 1, 2), 0);
+    assert_eq!(host.write_subtree_control(7, 1, b"+memory"), 0);
+    assert_eq!(host.write_setting(7, 2, b"memory.max", b"4096"), 0);
+    assert_eq!(host.make(0, 1, 3), 0);
+    assert_eq!(host.make(7, 3, 4), 13);
+    assert_eq!(host.remove(7, 3), 0);
+    assert_eq!(host.remove(7, 2), 0);
+    assert_eq!(host.hand_over(0, 1, 7), 0);
+    assert_eq!(host.hand_over(0, 1, 0), 0);
+    assert_eq!(host.make(7, 1, 2), 13);
+}

@@ -1,0 +1,109 @@
+//! The safe crate over the library: that what it declares is what the library has, and that numbers
+//! and replies come through as they are.
+
+use shootspiral::number::{LAST_GROUP, LAST_PROCESS, LONGEST_REPLY, MAX_DEPTH, TREE_WORDS};
+use shootspiral::{Denial, GroupId, Host, ProcessId, Refusal, User, file, first_bad_word, sys};
+
+#[test]
+fn a_tree_has_the_words_that_the_header_says() {
+    assert_eq!(sys::ss_tree_words(), TREE_WORDS as u64);
+}
+
+#[test]
+fn the_header_says_the_same() {
+    let header = include_str!("../../../include/shootspiral.h");
+    let constants = [
+        ("SS_TREE_WORDS", TREE_WORDS as u64),
+        ("SS_LAST_GROUP", LAST_GROUP.0),
+        ("SS_LAST_PROCESS", LAST_PROCESS.0),
+        ("SS_MAX_DEPTH", MAX_DEPTH),
+        ("SS_PAGE_BYTES", shootspiral::number::PAGE_BYTES),
+        ("SS_MAX_PAGES", shootspiral::number::MAX_PAGES),
+        ("SS_MAX_MACHINE_PAGES", shootspiral::number::MAX_MACHINE_PAGES),
+        ("SS_MAX_LINE", shootspiral::number::MAX_LINE as u64),
+        ("SS_LONGEST_REPLY", LONGEST_REPLY as u64),
+    ];
+    let errnos = Refusal::ALL.map(|refusal| (refusal.name(), u64::from(refusal.number())));
+    let errnos = errnos.map(|(name, number)| (format!("SS_{name}"), number));
+    let constants = constants.map(|(name, value)| (name.to_string(), value));
+    for (name, value) in constants.into_iter().chain(errnos) {
+        let defined = header.lines().find_map(|line| {
+            let mut words = line.split_whitespace();
+            let is_it = words.next() == Some("#define") && words.next() == Some(&name);
+            is_it.then(|| words.next().unwrap_or("").to_string())
+        });
+        let defined = defined.unwrap_or_else(|| panic!("{name} is not defined"));
+        let digits = defined.trim_start_matches("UINT64_C(").trim_end_matches(')');
+        assert_eq!(digits.parse(), Ok(value), "{name}");
+    }
+}
+
+/// 64 cgroups of which eight are one below the other, and 256 processes in the lowest.
+#[test]
+fn a_full_tree() {
+    let mut host = Host::fresh(1024);
+    for depth in 0..MAX_DEPTH {
+        host.make(User::ROOT, GroupId(depth), GroupId(depth + 1)).unwrap();
+    }
+    let lowest = GroupId(MAX_DEPTH);
+    assert_eq!(host.make(User::ROOT, lowest, GroupId(9)), Err(Refusal::Eagain));
+    for group in MAX_DEPTH + 1..=LAST_GROUP.0 {
+        host.make(User::ROOT, GroupId::ROOT, GroupId(group)).unwrap();
+    }
+    for process in 1..=LAST_PROCESS.0 {
+        host.admit(ProcessId(process), User(1000)).unwrap();
+        host.write_procs(User::ROOT, lowest, process.to_string()).unwrap();
+    }
+    let procs = host.read(lowest, file::PROCS).unwrap();
+    assert_eq!(procs.len(), LONGEST_REPLY);
+    let expected: String = (1..=LAST_PROCESS.0).map(|process| format!("{process}\n")).collect();
+    assert_eq!(procs, expected.as_bytes());
+    assert_eq!(host.membership(LAST_PROCESS).unwrap(), b"0::/1/2/3/4/5/6/7/8\n");
+    assert_eq!(host.charge(LAST_PROCESS, 1), Ok(9));
+}
+
+#[test]
+fn numbers_out_of_range_are_refused() {
+    let mut host = Host::fresh(1024);
+    for group in [64, 1 << 32, u64::MAX].map(GroupId) {
+        assert_eq!(host.make(User::ROOT, GroupId::ROOT, group), Err(Refusal::Einval));
+        assert_eq!(host.read(group, file::PROCS), Err(Refusal::Einval));
+        assert_eq!(host.release(group, 1), Err(Refusal::Einval));
+    }
+    for process in [0, 257, 1 << 32, u64::MAX].map(ProcessId) {
+        let none = Denial { refusal: Refusal::Esrch, group: None, consulted: 0 };
+        assert_eq!(host.admit(process, User::ROOT), Err(Refusal::Einval));
+        assert_eq!(host.charge(process, 1), Err(none));
+        assert_eq!(host.fork(process, ProcessId(1)), Err(none));
+        assert_eq!(host.membership(process), Err(Refusal::Esrch));
+    }
+}
+
+#[test]
+fn a_bad_word_is_a_part_of_the_callers_line() {
+    let line = b"+cpu  +disk \n";
+    let word = first_bad_word(line);
+    assert_eq!(word, b"+disk");
+    assert_eq!(word.as_ptr(), line[6..].as_ptr());
+    let end = first_bad_word(b"+cpu \n");
+    assert!(end.is_empty());
+}
+
+#[test]
+fn a_refusal_can_be_shown() {
+    assert_eq!(Refusal::Eacces.to_string(), "EACCES (13): the user may not");
+    let mut host = Host::fresh(0);
+    host.admit(ProcessId(5), User::ROOT).unwrap();
+    let denial = host.charge(ProcessId(5), 1).unwrap_err();
+    let shown = "ENOMEM (12): a memory limit or the machine stops a charge, cgroup 0, 1 consulted";
+    assert_eq!(denial.to_string(), shown);
+    for refusal in Refusal::ALL {
+        assert_eq!(Refusal::from_number(refusal.number()), Some(refusal));
+    }
+}
+
+#[test]
+fn trees_go_from_thread_to_thread() {
+    fn is_plain<T: Send + Sync + Clone>() {}
+    is_plain::<Host>();
+}
