@@ -17,10 +17,8 @@ use Rattle.model.specs.declared.Resource.the-variants.{Pages}
 use Rattle.model.specs.declared.Answer.the-variants.{Done}
 use Rattle.model.proofs.CheckLaws.{first-pass}
 use Rattle.tree.specs.Layout.{view}
-use Rattle.tree.specs.Counters.{ChainOf}
 use Rattle.tree.specs.Kept.{Kept, KeptAt}
 use Rattle.tree.specs.Calling.{Applied}
-use Rattle.tree.specs.declared.chain.Chain.{Chain}
 use Rattle.tree.proofs.RoomCallLaws.{RoomCall, RoomVetted}
 use Rattle.accounting.specs.Pages.{PagesAdjustable, PagesAdjusted}
 use Rattle.accounting.proofs.PagesLaws.{applied-pages}
@@ -45,8 +43,8 @@ module _ (xs : List ℕ) (p n g : ℕ) (v : first (chargeChecks (view xs) p n) �
   pub charge-vetted : RoomVetted xs p g (chargeChecks (view xs) p n)
   charge-vetted = record { passed = v; live = charge-live (view xs) p n v; group = e }
 
-  pub charge-adjustable : KeptAt xs g → (c : Chain) → ChainOf (view xs) g c → PagesAdjustable xs g c n 0
-  charge-adjustable o c h = record { home = o; chain = h; few = charge-few (view xs) p n v; enough = omega arith }
+  pub charge-adjustable : KeptAt xs g → PagesAdjustable xs g n 0
+  charge-adjustable o = record { home = o; few = charge-few (view xs) p n v; enough = omega arith }
 
   pub charged : Kept xs → verdict (view xs) (charge p n) ≡ Done → (ys : List ℕ) → PagesAdjusted xs ys g n 0 → Applied xs ys (charge p n)
   unfolding effect

@@ -1,12 +1,12 @@
--- Own pages and running sums changed together: usage after n pages more and m less in one group, and that the sums along the
--- chain follow it. Once for what comes and what goes. Assumes nothing.
+-- Own pages and running sums changed together: usage after n pages more and m less in one group, and that the sums above
+-- it follow. Once for what comes and what goes. Assumes nothing.
 use Prim.Native.Nat.{ℕ, _+_, _-_, _≤_, _<_}
 use native.Mathlib.Omega.{arith}
 use mathlib.Core.Bool.{Bool, true, false}
 use mathlib.Core.List.{List}
 use mathlib.Core.Logic.{_≢_}
 use mathlib.Core.Path.{_≡_, refl, ap, sym, _∙_, subst}
-use Rattle.model.specs.Functions.{pick, upd, weigh, member}
+use Rattle.model.specs.Functions.{pick, upd, weigh}
 use Rattle.model.specs.Sizes.{groups, largestCharge}
 use Rattle.model.specs.Tree.{Tree, Core, Group, withOwn, cores, lives, parents, places}
 use Rattle.model.specs.Hierarchy.{inside, ownPages, usage, amount}
@@ -20,10 +20,9 @@ use Rattle.model.proofs.ChainLaws.{inside-self}
 use Rattle.model.proofs.AmountLaws.{usage-change, population-same, own-within-usage}
 use Rattle.tree.specs.Layout.{view, sumIn}
 use Rattle.tree.specs.Changes.{Wrote, Adjusted, ownSet}
-use Rattle.tree.specs.Counters.{listed, Adjustable}
+use Rattle.tree.specs.Counters.{Adjustable}
 use Rattle.tree.specs.Kept.{Kept}
 use Rattle.tree.specs.Calling.{Applied}
-use Rattle.tree.specs.declared.chain.Chain.{Chain}
 use Rattle.tree.proofs.KeptLaws.{amount-small, adjustable}
 use Rattle.tree.proofs.CallLaws.{applied}
 use Rattle.accounting.specs.Pages.{pagesSet, PagesAdjustable, PagesAdjusted}
@@ -50,7 +49,7 @@ sum-follows false n m s u e = omega arith
 resources-apart : Processes ≢ Pages
 resources-apart e = let z : _≡_ {A = ℕ} 0 1 = cc in omega arith
 
-module _ (xs : List ℕ) (g : ℕ) (c : Chain) (n m : ℕ) (p : PagesAdjustable xs g c n m) where
+module _ (xs : List ℕ) (g n m : ℕ) (p : PagesAdjustable xs g n m) where
   pub group-low : g < groups
   group-low = p .home .kept .formed .sound .range g (p .home .live)
 
@@ -64,28 +63,27 @@ module _ (xs : List ℕ) (g : ℕ) (c : Chain) (n m : ℕ) (p : PagesAdjustable 
         p .few,
       )
 
-  pub sums-adjustable : (i j : ℕ) → i ≤ largestCharge → j ≤ view xs .group g .core .own → Adjustable xs Pages (listed c) i j
+  pub sums-adjustable : (i j : ℕ) → i ≤ largestCharge → j ≤ view xs .group g .core .own → Adjustable xs Pages g i j
   sums-adjustable i j few enough =
-      adjustable xs (p .home .kept) g (p .home .live) c (p .chain) Pages i j few
+      adjustable xs (p .home .kept) g (p .home .live) Pages i j few
       (λ a on. omega (arith, own-within-usage (cores (view xs)) a g group-low (p .home .live) on))
 
-  -- the sums along the chain first, then the own pages
-  module _ (ys zs : List ℕ) (v : ℕ) (adjusted : Adjusted xs ys Pages (listed c) n m) (wrote : Wrote ys zs (ownSet (view ys) g v))
+  -- the sums first, then the own pages
+  module _ (ys zs : List ℕ) (v : ℕ) (adjusted : Adjusted xs ys Pages g n m) (wrote : Wrote ys zs (ownSet (view ys) g v))
       (e : v ≡ view xs .group g .core .own + n - m) where
     pages-tree : view zs ≡ pagesSet (view xs) g n m
     pages-tree = wrote .tree ∙ rw e (ap (λ u. ownSet u g (view xs .group g .core .own + n - m)) (adjusted .tree))
 
     sums-after : (r : Resource) (a : ℕ) → lives (view xs) a ≡ true → sumIn zs r a ≡ amount (cores (pagesSet (view xs) g n m)) (places (view xs)) r a
-    unfolding inside
     sums-after Pages a l =
         let s : ℕ → Core = cores (view xs) in
         let after : ℕ → Core = upd s g (withOwn (s g .own + n - m) (s g)) in
-        let here : inside (parents (view xs)) a g ≡ member a (listed c) = ap (member a) (sym (p .chain .groups)) in
-        let u : usage after a + weigh (member a (listed c)) m ≡ sumIn xs Pages a + weigh (member a (listed c)) n =
-        rw (← here, p .home .kept .sums Pages a l)
+        let b : Bool = inside (parents (view xs)) a g in
+        let u : usage after a + weigh b m ≡ sumIn xs Pages a + weigh b n =
+        rw (p .home .kept .sums Pages a l)
         (usage-after-adjust s g n m group-low (p .home .live) (omega (arith, p .enough)) a) in
         wrote .sums Pages a ∙ adjusted .sums a
-        ∙ sum-follows (member a (listed c)) n m (sumIn xs Pages a) (usage after a) u
+        ∙ sum-follows b n m (sumIn xs Pages a) (usage after a) u
         ∙ ap (λ (k : ℕ → Core). usage k a) (sym (upd-map (λ (x : Group). x .core) (view xs .group) g _))
     sums-after Processes a l =
         wrote .sums Processes a ∙ adjusted .other Processes resources-apart a

@@ -13,10 +13,8 @@ use Rattle.model.specs.declared.Answer.{Answer}
 use Rattle.model.specs.declared.Answer.the-variants.{Done, Refused}
 use Rattle.model.proofs.Steps.{passed}
 use Rattle.tree.specs.Layout.{view}
-use Rattle.tree.specs.Counters.{ChainOf}
 use Rattle.tree.specs.Kept.{Kept, KeptAt}
 use Rattle.tree.specs.Calling.{Calling}
-use Rattle.tree.specs.declared.chain.Chain.{Chain}
 use Rattle.tree.proofs.CallLaws.{call-refused, call-done}
 use Rattle.accounting.specs.Pages.{PagesAdjustable, PagesAdjusted}
 use Rattle.accounting.proofs.PagesLaws.{applied-pages}
@@ -30,7 +28,7 @@ module _ (xs : List ℕ) (k : Kept xs) (g n : ℕ) (a : Answer) (d : a ≡ verdi
     vetted : Pass (checks (factsOf (view xs)) (release g n))
     vetted = passed (view xs) (release g n) (sym d ∙ r)
 
-    pub release-home : KeptAt xs g
+    release-home : KeptAt xs g
     unfolding checks Pass
     release-home = record { kept = k; live = vetted .1 .1 .1 .0 }
 
@@ -38,8 +36,8 @@ module _ (xs : List ℕ) (k : Kept xs) (g n : ℕ) (a : Answer) (d : a ≡ verdi
     unfolding checks Pass
     release-enough = ltb-false (view xs .group g .core .own) n (vetted .1 .1 .1 .1 .0)
 
-    pub release-adjustable : (c : Chain) → ChainOf (view xs) g c → PagesAdjustable xs g c 0 n
-    release-adjustable c h = record { home = release-home; chain = h; few = omega arith; enough = release-enough }
+    pub release-adjustable : PagesAdjustable xs g 0 n
+    release-adjustable = record { home = release-home; few = omega arith; enough = release-enough }
 
     pub release-done : (ys : List ℕ) → PagesAdjusted xs ys g 0 n → Calling xs ys (release g n) (verdict (view xs) (release g n)) Done
     unfolding effect

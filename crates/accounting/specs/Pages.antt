@@ -11,18 +11,15 @@ use Rattle.model.specs.Hierarchy.{amount}
 use Rattle.model.specs.declared.Resource.{Resource}
 use Rattle.tree.specs.Layout.{words, view, sumIn}
 use Rattle.tree.specs.Changes.{ownSet}
-use Rattle.tree.specs.Counters.{ChainOf}
 use Rattle.tree.specs.Kept.{KeptAt}
-use Rattle.tree.specs.declared.chain.Chain.{Chain}
 
 -- the tree with n own pages of g more, and m less
 abbrev pub pagesSet : Tree → ℕ → ℕ → ℕ → Tree
 pagesSet t g n m = ownSet t g (t .group g .core .own + n - m)
 
--- n pages more and m less fit a live group whose chain is c
-pub record PagesAdjustable (xs : List ℕ) (g : ℕ) (c : Chain) (n m : ℕ) : Type 0 where
+-- n pages more and m less fit a live group
+pub record PagesAdjustable (xs : List ℕ) (g n m : ℕ) : Type 0 where
   pub home : KeptAt xs g
-  pub chain : ChainOf (view xs) g c
   pub few : n ≤ largestCharge
   pub enough : m ≤ view xs .group g .core .own
 

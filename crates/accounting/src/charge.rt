@@ -55,9 +55,10 @@ pub fn charge(tree: &mut Tree, process: ProcessId, pages: u64) -> RoomAnswer
     let group = process_group(tree, process);
     let chain = chain_of(tree, group);
     let found = first_full(tree, chain, Resource::Pages, pages);
-    if let Room::Full(stop, place) = found {
-        return RoomAnswer::NoRoom(stop, place);
-    }
-    adjust_pages(tree, group, chain, pages, 0);
-    RoomAnswer::Granted(chain.len as u64)
+    let count = match found {
+        Room::Fits(count) => count,
+        Room::Full(stop, place) => return RoomAnswer::NoRoom(stop, place),
+    };
+    adjust_pages(tree, group, pages, 0);
+    RoomAnswer::Granted(count)
 }

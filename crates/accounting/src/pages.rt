@@ -2,8 +2,7 @@
 ghost use Rattle.accounting.specs.Pages.{PagesAdjustable, PagesAdjusted};
 use model::GroupId;
 use model::Resource;
-use tree::chain::Chain;
-use tree::counter::adjust_along;
+use tree::counter::adjust_up;
 use tree::layout::Tree;
 use tree::layout::own;
 use tree::layout::set_own;
@@ -11,13 +10,13 @@ use tree::layout::set_own;
 // The pages of one charge or release are at most this.
 pub const LARGEST_CHARGE: u64 = 1048576;
 
-// More pages of a group, and less: its own, and the running sum of each group of its chain.
-pub fn adjust_pages(tree: &mut Tree, group: GroupId, chain: Chain, more: u64, less: u64)
-    requires { ⌜ PagesAdjustable (now tree) (group .0) chain more less ⌝ }
+// More pages of a group, and less: its own, and its running sum with those of the groups above.
+pub fn adjust_pages(tree: &mut Tree, group: GroupId, more: u64, less: u64)
+    requires { ⌜ PagesAdjustable (now tree) (group .0) more less ⌝ }
     ensures { λ _. ⌜ PagesAdjusted (now (tree .entry)) (now (tree .exit)) (group .0) more less ⌝ }
 {
     let was = own(tree, group);
     let next = was + more - less;
-    adjust_along(tree, chain, Resource::Pages, more, less);
+    adjust_up(tree, group, Resource::Pages, more, less);
     set_own(tree, group, next);
 }

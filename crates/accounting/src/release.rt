@@ -9,7 +9,6 @@ use super::pages::adjust_pages;
 use model::Answer;
 use model::Errno;
 use model::GroupId;
-use tree::chain::chain_of;
 use tree::layout::GROUPS;
 use tree::layout::Tree;
 use tree::layout::is_live;
@@ -46,7 +45,6 @@ pub fn release(tree: &mut Tree, group: GroupId, pages: u64) -> Answer
     let Answer::Done = vetted else {
         return vetted;
     };
-    let chain = chain_of(tree, group);
-    adjust_pages(tree, group, chain, 0, pages);
+    adjust_pages(tree, group, 0, pages);
     Answer::Done
 }

@@ -18,10 +18,8 @@ use Rattle.model.proofs.CheckLaws.{first-pass}
 use Rattle.model.proofs.AmountLaws.{place-live}
 use Rattle.model.proofs.Steps.{passed}
 use Rattle.tree.specs.Layout.{view}
-use Rattle.tree.specs.Counters.{ChainOf}
 use Rattle.tree.specs.Kept.{Kept, KeptAt}
 use Rattle.tree.specs.Calling.{Calling, Applied}
-use Rattle.tree.specs.declared.chain.Chain.{Chain}
 use Rattle.tree.proofs.CallLaws.{call-done}
 use Rattle.tree.proofs.RoomCallLaws.{RoomCall, RoomVetted}
 use Rattle.processes.specs.Place.{Vacant, Seated}
@@ -32,11 +30,11 @@ module _ (xs : List ℕ) (k : Kept xs) (p user : ℕ) (v : verdict (view xs) (ad
   accepted : Pass (checks (factsOf (view xs)) (admit p user))
   accepted = passed (view xs) (admit p user) v
 
-  pub admit-vacant : (c : Chain) → ChainOf (view xs) 0 c → Vacant xs p 0 c
+  pub admit-vacant : Vacant xs p 0
   unfolding checks Pass
-  admit-vacant c h =
+  admit-vacant =
       record {
-        group = record { home = record { kept = k; live = k .formed .sound .root }; chain = h };
+        home = record { kept = k; live = k .formed .sound .root };
         low = leb-false processes p (accepted .1 .0);
         free = accepted .1 .1 .0;
       }
@@ -73,9 +71,8 @@ module _ (xs : List ℕ) (p new g : ℕ) (q : first (forkChecks (view xs) p new)
   pub fork-vetted : RoomVetted xs p g (forkChecks (view xs) p new)
   fork-vetted = record { passed = q; live = fork-parent (view xs) p new q; group = e }
 
-  pub fork-vacant : KeptAt xs g → (c : Chain) → ChainOf (view xs) g c → Vacant xs new g c
-  fork-vacant o c h =
-      record { group = record { home = o; chain = h }; low = fork-low (view xs) p new q; free = fork-free (view xs) p new q }
+  pub fork-vacant : KeptAt xs g → Vacant xs new g
+  fork-vacant o = record { home = o; low = fork-low (view xs) p new q; free = fork-free (view xs) p new q }
 
   pub forked : Kept xs → verdict (view xs) (fork p new) ≡ Done → (user : ℕ) → user ≡ view xs .process p .user → (ys : List ℕ)
       → Seated xs ys new (record { place = at g; user = user }) → Applied xs ys (fork p new)

@@ -5,32 +5,25 @@ use mathlib.Core.List.{List}
 use mathlib.Core.Path.{_≡_, refl, sym}
 use Rattle.model.specs.Checks.{Pass}
 use Rattle.model.specs.Tree.{noProcess, isLive, places}
-use Rattle.model.specs.Rules.{processGroup}
 use Rattle.model.specs.Calls.{exit, checks, verdict}
 use Rattle.model.specs.Effects.{effect}
 use Rattle.model.specs.declared.Answer.the-variants.{Done}
 use Rattle.model.proofs.Steps.{passed, process-lives}
 use Rattle.tree.specs.Layout.{view}
-use Rattle.tree.specs.Counters.{ChainOf}
-use Rattle.tree.specs.Kept.{Kept, KeptAt}
+use Rattle.tree.specs.Kept.{Kept}
 use Rattle.tree.specs.Calling.{Calling}
-use Rattle.tree.specs.declared.chain.Chain.{Chain}
 use Rattle.tree.proofs.CallLaws.{call-done}
 use Rattle.processes.specs.Place.{Standing, Seated}
 use Rattle.processes.proofs.PlaceLaws.{applied-seated}
 
 -- An exit that the check accepts.
 module _ (xs : List ℕ) (k : Kept xs) (p : ℕ) (v : verdict (view xs) (exit p) ≡ Done) where
-  pub exit-live : isLive (places (view xs) p) ≡ true
+  exit-live : isLive (places (view xs) p) ≡ true
   unfolding checks Pass
   exit-live = passed (view xs) (exit p) v .0
 
-  pub exit-home : (g : ℕ) → g ≡ processGroup (view xs) p → KeptAt xs g
-  exit-home g e = record { kept = k; live = rw e (process-lives (view xs) (k .formed) p exit-live) }
-
-  pub exit-standing : (g : ℕ) → g ≡ processGroup (view xs) p → (c : Chain) → ChainOf (view xs) g c → Standing xs p c
-  exit-standing g e c h =
-      record { group = record { home = exit-home (processGroup (view xs) p) refl; chain = rw (← e) h }; live = exit-live }
+  pub exit-standing : Standing xs p
+  exit-standing = record { home = record { kept = k; live = process-lives (view xs) (k .formed) p exit-live }; live = exit-live }
 
   pub exit-done : (ys : List ℕ) → Seated xs ys p noProcess → Calling xs ys (exit p) (verdict (view xs) (exit p)) Done
   unfolding effect

@@ -118,14 +118,14 @@ module _ (t : Tree) (user p g : ℕ) where
         q ∙ rw (c, ne-eqb user 0 nz, ← e, eq-eqb user own y)
 
 -- the common ancestor of both chains is in range
-pub ancestor-low : (xs : List ℕ) (p g : ℕ) (source target : Chain) → Moving xs p g source target
-    → (a : ℕ) → a ≡ firstCommon (listed source) (listed target) → a < groups
+pub ancestor-low : (xs : List ℕ) (p g : ℕ) (source target : Chain) → Moving xs p g → ChainOf (view xs) (processGroup (view xs) p) source
+    → ChainOf (view xs) g target → (a : ℕ) → a ≡ firstCommon (listed source) (listed target) → a < groups
 unfolding commonAncestor
-ancestor-low xs p g source target h a f =
-    let s = h .to .home .kept .formed .sound in
-    let o = h .from .group in
-    let c : a ≡ commonAncestor (parents (view xs)) (processGroup (view xs) p) g = f ∙ rw (o .chain .groups, h .to .chain .groups) in
-    rw c (s .range _ (inside-live s _ (processGroup (view xs) p) (o .home .live) (ancestor-of-left s (processGroup (view xs) p) g (o .home .live))))
+ancestor-low xs p g source target h from to a f =
+    let s = h .to .kept .formed .sound in
+    let o = h .from .home in
+    let c : a ≡ commonAncestor (parents (view xs)) (processGroup (view xs) p) g = f ∙ rw (from .groups, to .groups) in
+    rw c (s .range _ (inside-live s _ (processGroup (view xs) p) (o .live) (ancestor-of-left s (processGroup (view xs) p) g (o .live))))
 
 -- The inner-process rule.
 module _ (t : Tree) (g : ℕ) where
@@ -192,23 +192,19 @@ line-vetted xs user g line p k o n f r =
     }
 
 module _ {xs : List ℕ} {user g : ℕ} {line : List ℕ} {p : ProcessId} (v : LineVetted xs user g line p) where
-  pub procs-target : KeptAt xs g
+  procs-target : KeptAt xs g
   unfolding groupChecks Pass
   procs-target = record { kept = v .kept; live = first-pass (groupChecks (view xs) user g) (sym (v .target)) .1 .0 }
 
-  pub procs-live : isLive (places (view xs) (p .0)) ≡ true
+  procs-live : isLive (places (view xs) (p .0)) ≡ true
   unfolding lineChecks numberChecks Pass
   procs-live = rw (v .number) (first-pass (lineChecks (view xs) line) (sym (v .text)) .1 .1 .1 .1 .0)
 
-  pub procs-source : (s : ℕ) → s ≡ processGroup (view xs) (p .0) → KeptAt xs s
-  procs-source s e = record { kept = v .kept; live = rw e (process-lives (view xs) (v .kept .formed) (p .0) procs-live) }
-
-  pub procs-moving : (s : ℕ) → s ≡ processGroup (view xs) (p .0) → (source target : Chain) → ChainOf (view xs) s source → ChainOf (view xs) g target
-      → Moving xs (p .0) g source target
-  procs-moving s e source target h c =
+  pub procs-moving : Moving xs (p .0) g
+  procs-moving =
       record {
-        from = record { group = record { home = procs-source _ refl; chain = rw (← e) h }; live = procs-live };
-        to = record { home = procs-target; chain = c };
+        from = record { home = record { kept = v .kept; live = process-lives (view xs) (v .kept .formed) (p .0) procs-live }; live = procs-live };
+        to = procs-target;
       }
 
   -- what the move's checks say

@@ -1,4 +1,4 @@
--- A process's place and the running sums above it, changed together: the sums are counted anew along one chain or two, then the
+-- A process's place and the running sums above it, changed together: the sums are counted anew above one group or two, then the
 -- place is stored, and every sum is the number of processes inside. Once for who comes, who goes and who moves. Assumes nothing.
 use Prim.Native.Nat.{ℕ, _+_, _-_, _≤_, _<_}
 use native.Mathlib.Omega.{arith}
@@ -7,11 +7,12 @@ use mathlib.Core.List.{List}
 use mathlib.Core.Logic.{_≢_}
 use mathlib.Core.Path.{_≡_, ap, sym, _∙_, subst}
 use lib.ListN.{length}
-use Rattle.model.specs.Functions.{pick, upd, weigh, member}
+use Rattle.model.specs.Functions.{pick, upd, weigh}
 use Rattle.model.specs.Sizes.{processes}
-use Rattle.model.specs.Tree.{Tree, Place, nowhere, at, Process, noProcess, groupOf, isLive, lives, cores, places, parents, atProcess}
+use Rattle.model.specs.Tree.{Tree, Place, nowhere, at, Process, noProcess, groupOf, isLive, lives, cores, places, parents, depths, atProcess}
 use Rattle.model.specs.Hierarchy.{inside, headcount, population, amount}
 use Rattle.model.specs.Rules.{processGroup}
+use Rattle.model.specs.WellFormed.{Sound}
 use Rattle.model.specs.Calls.{Call, verdict}
 use Rattle.model.specs.Effects.{effect}
 use Rattle.model.specs.declared.Resource.{Resource}
@@ -23,10 +24,9 @@ use Rattle.model.proofs.AmountLaws.{place-live, place-free, population-change}
 use Rattle.model.proofs.ProcessLaws.{process-range}
 use Rattle.tree.specs.Layout.{words, view, sumIn}
 use Rattle.tree.specs.Changes.{Wrote, Adjusted}
-use Rattle.tree.specs.Counters.{listed, ChainOf, Adjustable}
+use Rattle.tree.specs.Counters.{Adjustable}
 use Rattle.tree.specs.Kept.{Kept}
 use Rattle.tree.specs.Calling.{Applied}
-use Rattle.tree.specs.declared.chain.Chain.{Chain}
 use Rattle.tree.proofs.KeptLaws.{adjustable}
 use Rattle.tree.proofs.CallLaws.{applied}
 use Rattle.tree.proofs.RoomCallLaws.{sum-after-adjust}
@@ -54,8 +54,8 @@ pub record Recounted (xs ys : List ℕ) (from to : Place) : Type 0 where
   pub processes : (a : ℕ) → sumIn ys Processes a + counted (view xs) from a ≡ sumIn xs Processes a + counted (view xs) to a
   pub pages : (a : ℕ) → sumIn ys Pages a ≡ sumIn xs Pages a
 
-module _ (xs ys : List ℕ) (g : ℕ) (c : Chain) (h : ChainOf (view xs) g c) where
-  pub recounted-more : Adjusted xs ys Processes (listed c) 1 0 → Recounted xs ys nowhere (at g)
+module _ (xs ys : List ℕ) (g : ℕ) where
+  pub recounted-more : Adjusted xs ys Processes g 1 0 → Recounted xs ys nowhere (at g)
   recounted-more d =
       record {
         long = d .long;
@@ -63,14 +63,14 @@ module _ (xs ys : List ℕ) (g : ℕ) (c : Chain) (h : ChainOf (view xs) g c) wh
         processes = λ a.
             omega (
               arith,
-              sum-after-adjust xs ys g c Processes 1 0 h d (λ b _. omega arith) a,
+              sum-after-adjust xs ys g Processes 1 0 d (λ b _. omega arith) a,
               weigh-zero (inside (parents (view xs)) a g),
               weigh-zero (inside (parents (view xs)) a 0),
             );
         pages = d .other Pages pages-apart;
       }
 
-  pub recounted-less : ((a : ℕ) → inside (parents (view xs)) a g ≡ true → 1 ≤ sumIn xs Processes a) → Adjusted xs ys Processes (listed c) 0 1
+  pub recounted-less : ((a : ℕ) → inside (parents (view xs)) a g ≡ true → 1 ≤ sumIn xs Processes a) → Adjusted xs ys Processes g 0 1
       → Recounted xs ys (at g) nowhere
   recounted-less some d =
       record {
@@ -79,7 +79,7 @@ module _ (xs ys : List ℕ) (g : ℕ) (c : Chain) (h : ChainOf (view xs) g c) wh
         processes = λ a.
             omega (
               arith,
-              sum-after-adjust xs ys g c Processes 0 1 h d (λ b i. omega (arith, some b i)) a,
+              sum-after-adjust xs ys g Processes 0 1 d (λ b i. omega (arith, some b i)) a,
               weigh-zero (inside (parents (view xs)) a g),
               weigh-zero (inside (parents (view xs)) a 0),
             );
@@ -128,78 +128,81 @@ module _ (xs ys zs : List ℕ) (k : Kept xs) (p : ℕ) (low : p < processes) (v 
           ∙ ap (λ (pl : ℕ → Place). population (cores (view xs)) pl a) (sym (upd-map (λ (x : Process). x .place) (view xs .process) p v))
 
 -- A birth.
-module _ (xs : List ℕ) (p g : ℕ) (c : Chain) (h : Vacant xs p g c) where
-  pub enter-adjustable : (n : ℕ) → n ≤ 1 → Adjustable xs Processes (listed c) n 0
-  enter-adjustable n few =
-      let o = h .group in
-      adjustable xs (o .home .kept) g (o .home .live) c (o .chain) Processes n 0 (omega arith) (λ a i. omega arith)
+module _ (xs : List ℕ) (p g : ℕ) (h : Vacant xs p g) where
+  pub enter-adjustable : (n : ℕ) → n ≤ 1 → Adjustable xs Processes g n 0
+  enter-adjustable n few = adjustable xs (h .home .kept) g (h .home .live) Processes n 0 (omega arith) (λ a i. omega arith)
 
-  pub entered : (ys zs : List ℕ) (user : ℕ) → Adjusted xs ys Processes (listed c) 1 0
+  pub entered : (ys zs : List ℕ) (user : ℕ) → Adjusted xs ys Processes g 1 0
       → Wrote ys zs (atProcess (view ys) p (record { place = at g; user = user })) → Seated xs zs p (record { place = at g; user = user })
   entered ys zs user d w =
-      seated xs ys zs (h .group .home .kept) p (h .low) (record { place = at g; user = user })
-      (rw (place-free (places (view xs) p) (h .free)) (recounted-more xs ys g c (h .group .chain) d)) w
+      seated xs ys zs (h .home .kept) p (h .low) (record { place = at g; user = user })
+      (rw (place-free (places (view xs) p) (h .free)) (recounted-more xs ys g d)) w
 
 -- An end.
-module _ (xs : List ℕ) (p : ℕ) (c : Chain) (h : Standing xs p c) where
+module _ (xs : List ℕ) (p : ℕ) (h : Standing xs p) where
   pub standing-low : p < processes
-  standing-low = process-range (view xs) (h .group .home .kept .formed) p (h .live)
+  standing-low = process-range (view xs) (h .home .kept .formed) p (h .live)
 
   -- it is counted along its chain
   standing-inside : (a : ℕ) → inside (parents (view xs)) a (processGroup (view xs) p) ≡ true → 1 ≤ population (cores (view xs)) (places (view xs)) a
   standing-inside a i = counted-within (view xs) p a standing-low (h .live) i
 
-  pub leave-adjustable : (m : ℕ) → m ≤ 1 → Adjustable xs Processes (listed c) 0 m
-  leave-adjustable m few =
-      let o = h .group in
-      adjustable xs (o .home .kept) (processGroup (view xs) p) (o .home .live) c (o .chain) Processes 0 m (omega arith)
-      (λ a i. omega (arith, standing-inside a i))
+  pub leave-adjustable : (g m : ℕ) → g ≡ processGroup (view xs) p → m ≤ 1 → Adjustable xs Processes g 0 m
+  leave-adjustable g m e few =
+      rw e
+      (adjustable xs (h .home .kept) (processGroup (view xs) p) (h .home .live) Processes 0 m (omega arith)
+      (λ a i. omega (arith, standing-inside a i)))
 
   -- without the process
-  left-out : (ys : List ℕ) → Adjusted xs ys Processes (listed c) 0 1 → Recounted xs ys (at (processGroup (view xs) p)) nowhere
-  left-out ys d =
-      let o = h .group in
-      recounted-less xs ys (processGroup (view xs) p) c (o .chain)
+  left-out : (ys : List ℕ) (g : ℕ) → g ≡ processGroup (view xs) p → Adjusted xs ys Processes g 0 1
+      → Recounted xs ys (at (processGroup (view xs) p)) nowhere
+  left-out ys g e d =
+      let o = h .home in
+      recounted-less xs ys (processGroup (view xs) p)
       (λ a i. omega (
         arith,
         standing-inside a i,
-        o .home .kept .sums Processes a (inside-live (o .home .kept .formed .sound) a (processGroup (view xs) p) (o .home .live) i),
+        o .kept .sums Processes a (inside-live (o .kept .formed .sound) a (processGroup (view xs) p) (o .live) i),
       ))
-      d
+      (rw e at d)
 
-  pub exited : (ys zs : List ℕ) → Adjusted xs ys Processes (listed c) 0 1
+  pub exited : (ys zs : List ℕ) (g : ℕ) → g ≡ processGroup (view xs) p → Adjusted xs ys Processes g 0 1
       → Wrote ys zs (atProcess (view ys) p noProcess) → Seated xs zs p noProcess
-  exited ys zs d w =
-      seated xs ys zs (h .group .home .kept) p standing-low noProcess
-      (rw (place-live (places (view xs) p) (h .live)) (left-out ys d)) w
+  exited ys zs g e d w =
+      seated xs ys zs (h .home .kept) p standing-low noProcess
+      (rw (place-live (places (view xs) p) (h .live)) (left-out ys g e d)) w
 
--- A move: first out of the sums of one chain, then into those of the other.
+-- A move: first out of the sums of one group and those above it, then into those of the other.
 not-more : (b : Bool) (s m : ℕ) → pick b (s + 0 - m) s ≤ s
 not-more true s m = omega arith
 not-more false s m = omega arith
 
-module _ (xs : List ℕ) (p g : ℕ) (source target : Chain) (h : Moving xs p g source target) (ys : List ℕ) where
-  pub move-adjustable : (m n : ℕ) → Adjusted xs ys Processes (listed source) 0 m → n ≤ 1 → Adjustable ys Processes (listed target) n 0
+module _ (xs : List ℕ) (p g : ℕ) (h : Moving xs p g) (ys : List ℕ) (source : ℕ) where
+  pub move-adjustable : (m n : ℕ) → Adjusted xs ys Processes source 0 m → n ≤ 1 → Adjustable ys Processes g n 0
   move-adjustable m n d few =
-      let o = h .to in
-      let was : Adjustable xs Processes (listed target) n 0 =
-      adjustable xs (o .home .kept) g (o .home .live) target (o .chain) Processes n 0 (omega arith) (λ a i. omega arith) in
+      let up : (ℕ → ℕ) = parents (view xs) in
+      let was : Adjustable xs Processes g n 0 = adjustable xs (h .to .kept) g (h .to .live) Processes n 0 (omega arith) (λ a i. omega arith) in
       record {
         long = d .long;
-        apart = was .apart;
-        low = was .low;
-        room = λ a i. omega (arith, was .room a i, d .sums a, not-more (member a (listed source)) (sumIn xs Processes a) m);
+        sound = subst (λ (t : Tree). Sound (lives t) (parents t) (depths t)) (sym (d .tree)) (was .sound);
+        live = subst (λ (t : Tree). lives t g ≡ true) (sym (d .tree)) (was .live);
+        room = λ a i.
+            omega (
+              arith,
+              was .room a (subst (λ (t : Tree). inside (parents t) a g ≡ true) (d .tree) i),
+              d .sums a,
+              not-more (inside up a source) (sumIn xs Processes a) m,
+            );
         enough = λ a i. omega arith;
       }
 
-  pub relocated : (zs us : List ℕ) (user : ℕ) → user ≡ view xs .process p .user → Adjusted xs ys Processes (listed source) 0 1
-      → Adjusted ys zs Processes (listed target) 1 0 → Wrote zs us (atProcess (view zs) p (record { place = at g; user = user }))
+  pub relocated : (zs us : List ℕ) (user : ℕ) → user ≡ view xs .process p .user → source ≡ processGroup (view xs) p
+      → Adjusted xs ys Processes source 0 1 → Adjusted ys zs Processes g 1 0 → Wrote zs us (atProcess (view zs) p (record { place = at g; user = user }))
       → Seated xs us p (record { place = at g; user = view xs .process p .user })
-  relocated zs us user q d e w =
-      let out : Recounted xs ys (at (processGroup (view xs) p)) nowhere = left-out xs p source (h .from) ys d in
-      let chain : ChainOf (view ys) g target = subst (λ (t : Tree). ChainOf t g target) (sym (out .tree)) (h .to .chain) in
-      let come : Recounted ys zs nowhere (at g) = recounted-more ys zs g target chain e in
-      seated xs zs us (h .to .home .kept) p (standing-low xs p source (h .from)) (record { place = at g; user = view xs .process p .user })
+  relocated zs us user q f d e w =
+      let out : Recounted xs ys (at (processGroup (view xs) p)) nowhere = left-out xs p (h .from) ys source f d in
+      let come : Recounted ys zs nowhere (at g) = recounted-more ys zs g e in
+      seated xs zs us (h .to .kept) p (standing-low xs p (h .from)) (record { place = at g; user = view xs .process p .user })
       (rw (place-live (places (view xs) p) (h .from .live)) (recounted-then xs ys zs _ _ out come)) (rw q at w)
 
 -- An accepted call whose effect is such a change.

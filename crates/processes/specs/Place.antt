@@ -11,30 +11,23 @@ use Rattle.model.specs.Hierarchy.{amount}
 use Rattle.model.specs.Rules.{processGroup}
 use Rattle.model.specs.declared.Resource.{Resource}
 use Rattle.tree.specs.Layout.{words, view, sumIn}
-use Rattle.tree.specs.Counters.{ChainOf}
 use Rattle.tree.specs.Kept.{KeptAt}
-use Rattle.tree.specs.declared.chain.Chain.{Chain}
-
--- a live group of the words, and its chain
-pub record Homed (xs : List ℕ) (g : ℕ) (c : Chain) : Type 0 where
-  pub home : KeptAt xs g
-  pub chain : ChainOf (view xs) g c
 
 -- a free number, for a process of g
-pub record Vacant (xs : List ℕ) (p g : ℕ) (c : Chain) : Type 0 where
-  pub group : Homed xs g c
+pub record Vacant (xs : List ℕ) (p g : ℕ) : Type 0 where
+  pub home : KeptAt xs g
   pub low : p < processes
   pub free : isLive (places (view xs) p) ≡ false
 
--- a live process, and the chain of its group
-pub record Standing (xs : List ℕ) (p : ℕ) (c : Chain) : Type 0 where
-  pub group : Homed xs (processGroup (view xs) p) c
+-- a live process
+pub record Standing (xs : List ℕ) (p : ℕ) : Type 0 where
+  pub home : KeptAt xs (processGroup (view xs) p)
   pub live : isLive (places (view xs) p) ≡ true
 
--- a live process and a live group, with the chains of the process's group and of that group
-pub record Moving (xs : List ℕ) (p g : ℕ) (source target : Chain) : Type 0 where
-  pub from : Standing xs p source
-  pub to : Homed xs g target
+-- a live process and a live group
+pub record Moving (xs : List ℕ) (p g : ℕ) : Type 0 where
+  pub from : Standing xs p
+  pub to : KeptAt xs g
 
 -- the words stand for the tree where process p is v, and every running sum is its amount
 pub record Seated (xs ys : List ℕ) (p : ℕ) (v : Process) : Type 0 where

@@ -49,9 +49,7 @@ pub fn admit(tree: &mut Tree, process: ProcessId, user: u32) -> Answer
     let Answer::Done = vetted else {
         return vetted;
     };
-    let root = GroupId(0);
-    let chain = chain_of(tree, root);
-    enter(tree, process, root, user as u64, chain);
+    enter(tree, process, GroupId(0), user as u64);
     Answer::Done
 }
 
@@ -92,9 +90,10 @@ pub fn fork(tree: &mut Tree, parent: ProcessId, new: ProcessId) -> RoomAnswer
     let user = process_user(tree, parent);
     let chain = chain_of(tree, group);
     let found = first_full(tree, chain, Resource::Processes, 1);
-    if let Room::Full(stop, place) = found {
-        return RoomAnswer::NoRoom(stop, place);
-    }
-    enter(tree, new, group, user, chain);
-    RoomAnswer::Granted(chain.len as u64)
+    let count = match found {
+        Room::Fits(count) => count,
+        Room::Full(stop, place) => return RoomAnswer::NoRoom(stop, place),
+    };
+    enter(tree, new, group, user);
+    RoomAnswer::Granted(count)
 }

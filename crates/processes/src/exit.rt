@@ -8,11 +8,9 @@ use super::place::leave;
 use model::Answer;
 use model::Errno;
 use model::ProcessId;
-use tree::chain::chain_of;
 use tree::layout::PROCESSES;
 use tree::layout::Tree;
 use tree::layout::is_process;
-use tree::layout::process_group;
 
 // 3 no such live process.
 fn vet_exit(tree: &Tree, process: ProcessId) -> Answer
@@ -37,8 +35,6 @@ pub fn exit(tree: &mut Tree, process: ProcessId) -> Answer
     let Answer::Done = vetted else {
         return vetted;
     };
-    let group = process_group(tree, process);
-    let chain = chain_of(tree, group);
-    leave(tree, process, chain);
+    leave(tree, process);
     Answer::Done
 }

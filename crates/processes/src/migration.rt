@@ -18,7 +18,6 @@ use model::ProcessId;
 use text::line::is_too_long;
 use text::number::Number;
 use text::number::read_number_line;
-use tree::chain::Chain;
 use tree::chain::chain_of;
 use tree::chain::common_ancestor;
 use tree::layout::GROUPS;
@@ -87,15 +86,8 @@ fn vet_line(tree: &Tree, line: &[u8]) -> Named
 
 // Whether a user may move a process: user 0, or the process's own user that may write the common ancestor of both groups. The
 // chains are those of the process's group and of the group that it moves to.
-fn may_move(
-    tree: &Tree,
-    user: u32,
-    process: ProcessId,
-    group: GroupId,
-    source: Chain,
-    target: Chain,
-) -> bool
-    requires { ⌜ Moving (now tree) (process .0) (group .0) source target ⌝ }
+fn may_move(tree: &Tree, user: u32, process: ProcessId, group: GroupId) -> bool
+    requires { ⌜ Moving (now tree) (process .0) (group .0) ⌝ }
     ensures { λ r. ⌜ r ≡ mayMove (view (now (tree .entry))) user (process .0) (group .0) ⌝ }
 {
     if user == 0 {
@@ -104,6 +96,8 @@ fn may_move(
     if user as u64 != process_user(tree, process) {
         return false;
     }
+    let source = chain_of(tree, process_group(tree, process));
+    let target = chain_of(tree, group);
     may_write(tree, user, common_ancestor(source, target))
 }
 
@@ -125,18 +119,11 @@ fn is_closed(tree: &Tree, group: GroupId) -> bool
 }
 
 // 13 the user may not move the process there; 16 the group is closed to processes.
-fn vet_move(
-    tree: &Tree,
-    user: u32,
-    process: ProcessId,
-    group: GroupId,
-    source: Chain,
-    target: Chain,
-) -> Answer
-    requires { ⌜ Moving (now tree) (process .0) (group .0) source target ⌝ }
+fn vet_move(tree: &Tree, user: u32, process: ProcessId, group: GroupId) -> Answer
+    requires { ⌜ Moving (now tree) (process .0) (group .0) ⌝ }
     ensures { λ r. ⌜ r ≡ first (moveChecks (view (now (tree .entry))) user (process .0) (group .0)) ⌝ }
 {
-    if !may_move(tree, user, process, group, source, target) {
+    if !may_move(tree, user, process, group) {
         return Answer::Refused(Errno::Eacces);
     }
     if is_closed(tree, group) {
@@ -159,12 +146,10 @@ pub fn write_procs(tree: &mut Tree, user: u32, group: GroupId, line: &[u8]) -> A
         Named::Process(process) => process,
         Named::Refused(errno) => return Answer::Refused(errno),
     };
-    let source = chain_of(tree, process_group(tree, process));
-    let target = chain_of(tree, group);
-    let vetted = vet_move(tree, user, process, group, source, target);
+    let vetted = vet_move(tree, user, process, group);
     let Answer::Done = vetted else {
         return vetted;
     };
-    relocate(tree, process, group, source, target);
+    relocate(tree, process, group);
     Answer::Done
 }

@@ -1,37 +1,24 @@
--- Running sums adjusted along a list of groups, one group after another. Assumes nothing.
-use Prim.Native.Nat.{ℕ, zero, suc, _+_, _-_, _≤_, _<_}
+-- Running sums adjusted in a group and in each group above it, one after another. Assumes nothing.
+use Prim.Native.Nat.{ℕ, _+_, _-_, _≤_, _<_}
 use native.Mathlib.Omega.{arith}
-use native.Mathlib.Numerals.{add-one}
-use mathlib.Core.Bool.{true, false}
-use mathlib.Core.List.{List, [], _∷_, _++_}
-use mathlib.Core.Logic.{_≢_}
-use mathlib.Core.Path.{_≡_, refl, ap, _∙_}
-use lib.Dec.{eqb}
-use lib.ListN.{length, getD, take, length-take}
-use lib.Seq.{take-all, take-suc, getD-take}
-use borrow.Author.Tests.{eqb-true, eq-eqb, ne-eqb}
-use Rattle.model.specs.Functions.{upd, member}
+use mathlib.Core.Bool.{Bool, true, false}
+use mathlib.Core.List.{List}
+use mathlib.Core.Logic.{_≢_, ⊎-elim}
+use mathlib.Core.Path.{_≡_, refl, ap, sym, _∙_}
+use lib.ListN.{length}
+use Rattle.model.specs.Functions.{pick, upd}
 use Rattle.model.specs.Sizes.{groups}
+use Rattle.model.specs.Tree.{Tree, lives, parents, depths}
+use Rattle.model.specs.Hierarchy.{inside}
+use Rattle.model.specs.WellFormed.{Sound}
 use Rattle.model.specs.declared.Resource.{Resource}
 use Rattle.model.specs.declared.Resource.the-variants.{Pages, Processes}
 use Rattle.model.proofs.FunctionLaws.{split, whether, clash, upd-same, upd-other}
+use Rattle.model.proofs.ChainLaws.{tree-ind, inside-self, inside-up, inside-cases, inside-root, inside-trans}
 use Rattle.tree.specs.Layout.{row, words, word, put, sumField, sumIn, view}
 use Rattle.tree.specs.Changes.{Adjusted}
-use Rattle.tree.specs.Counters.{listed, Whole, Apart, Adjustable}
-use Rattle.tree.specs.declared.chain.Chain.{Chain}
-use Rattle.tree.proofs.WalkLaws.{member-at, on-chain}
+use Rattle.tree.specs.Counters.{Adjustable}
 use Rattle.tree.proofs.RowLaws.{RowPut, row-start, row-put, word-kept, view-after-sum}
-
--- one group more at the end of a list
-member-last : (a g : ℕ) (ps : List ℕ) → a ≡ g → member a (ps ++ (g ∷ [])) ≡ true
-unfolding member
-member-last a g [] e = rw (eq-eqb a g e, member)
-member-last a g (p ∷ ps) e = split (eqb a p) (λ y. rw (y, member)) (λ n. rw (n, member) (member-last a g ps e))
-
-member-before : (a g : ℕ) (ps : List ℕ) → a ≢ g → member a (ps ++ (g ∷ [])) ≡ member a ps
-unfolding member
-member-before a g [] ne = rw (ne-eqb a g ne, member)
-member-before a g (p ∷ ps) ne = split (eqb a p) (λ y. rw (y, member)) (λ n. rw (n, member) (member-before a g ps ne))
 
 -- The words after one sum was stored.
 module _ (xs ys : List ℕ) (r : Resource) (g v : ℕ) (l : length xs ≡ words) (low : g < groups) (e : ys ≡ put xs g (sumField r) v) where
@@ -74,81 +61,109 @@ module _ (xs ys : List ℕ) (r : Resource) (g v : ℕ) (l : length xs ≡ words)
   sum-of-other : (q : Resource) → q ≢ r → (a : ℕ) → sumIn ys q a ≡ sumIn xs q a
   sum-of-other q ne a = word-kept xs ys g _ stored a (sumField q) (field-low q) (upd-other (word xs g) (sumField r) v (sumField q) (sums-apart q ne))
 
-pub adjusted-none : (xs : List ℕ) (r : Resource) (n m : ℕ) → length xs ≡ words → Adjusted xs xs r [] n m
-unfolding member
-adjusted-none xs r n m l = record { long = l; tree = refl; sums = λ g. refl; other = λ q ne g. refl }
+-- In the loop: the groups from `here` up are as they were, and those of the chain of g below it are adjusted.
+pub record Rising (xs : List ℕ) (r : Resource) (g n m : ℕ) (ys : List ℕ) (here : ℕ) : Type 0 where
+  pub long : length ys ≡ words
+  pub tree : view ys ≡ view xs
+  pub on : inside (parents (view xs)) here g ≡ true
+  pub live : lives (view xs) here ≡ true
+  pub left : (a : ℕ) → inside (parents (view xs)) a here ≡ true → sumIn ys r a ≡ sumIn xs r a
+  pub done : (a : ℕ) → inside (parents (view xs)) a here ≡ false
+      → sumIn ys r a ≡ pick (inside (parents (view xs)) a g) (sumIn xs r a + n - m) (sumIn xs r a)
+  pub other : (q : Resource) → q ≢ r → (a : ℕ) → sumIn ys q a ≡ sumIn xs q a
 
--- one group more
-pub adjusted-more : (xs ys zs : List ℕ) (r : Resource) (ps : List ℕ) (g n m : ℕ) → Adjusted xs ys r ps n m → member g ps ≡ false → g < groups
-    → zs ≡ put ys g (sumField r) (sumIn ys r g + n - m) → Adjusted xs zs r (ps ++ (g ∷ [])) n m
-adjusted-more xs ys zs r ps g n m a out low e =
-    let v : ℕ = sumIn ys r g + n - m in
-    let l : length ys ≡ words = a .long in
-    record {
-      long = stored ys zs r g v l low e .long;
-      tree = view-stored ys zs r g v l low e ∙ a .tree;
-      sums = λ h.
-          whether h g
-          (λ d. let here : sumIn ys r g ≡ sumIn xs r g = a .sums g ∙ rw out in
-          rw (member-last h g ps d, d) (sum-here ys zs r g v l low e ∙ ap (λ x. x + n - m) here))
-          (λ ne. rw (member-before h g ps ne) (sum-elsewhere ys zs r g v l low e h ne ∙ a .sums h));
-      other = λ q ne h. sum-of-other ys zs r g v l low e q ne h ∙ a .other q ne h;
-    }
+-- a group is no deeper than one inside it
+inside-shallow : {live : ℕ → Bool} {up depth : ℕ → ℕ} (s : Sound live up depth) (a g : ℕ) → live g ≡ true → inside up a g ≡ true → depth a ≤ depth g
+inside-shallow {live} {up} {depth} s a =
+    tree-ind s (λ g. inside up a g ≡ true → depth a ≤ depth g)
+    (λ h. rw (inside-root s a h) (omega arith))
+    (λ g l nz ih h. ⊎-elim (λ (e : a ≡ g). rw e (omega arith)) (λ m. omega (arith, ih m, s .deeper g l nz)) (inside-cases s a g l nz h))
 
--- a group of a list without repeats is not among those before it
-not-before : (gs : List ℕ) (i : ℕ) → Apart gs → i < length gs → member (getD gs i 0) (take i gs) ≡ false
-unfolding Apart member
-not-before [] i a h = absurd (omega arith)
-not-before (g ∷ gs) zero a h = refl
-not-before (g ∷ gs) (suc i) a h =
-    split (eqb (getD gs i 0) g)
-    (λ y. clash (member g gs) (rw (eqb-true (getD gs i 0) g y) at (member-at gs i (omega arith))) (a .0))
-    (λ n. rw (n, member) (not-before gs i (a .1) (omega arith)))
+module _ (xs : List ℕ) (r : Resource) (g n m : ℕ) (k : Adjustable xs r g n m) where
+  pub rising-start : Rising xs r g n m xs g
+  rising-start =
+      record {
+        long = k .long;
+        tree = refl;
+        on = inside-self (k .sound) g (k .live);
+        live = k .live;
+        left = λ a i. refl;
+        done = λ a o. rw o;
+        other = λ q ne a. refl;
+      }
 
--- In the loop: the groups of the chain passed so far.
-pub record Adjusting (xs : List ℕ) (r : Resource) (c : Chain) (n m : ℕ) (ys : List ℕ) (i : ℕ) : Type 0 where
-  pub done : Adjusted xs ys r (take i (listed c)) n m
-  pub bound : i ≤ c .len
+  module _ (ys : List ℕ) (here : ℕ) (p : Rising xs r g n m ys here) where
+    same-sum : sumIn ys r here ≡ sumIn xs r here
+    same-sum = p .left here (inside-self (k .sound) here (p .live))
 
-pub adjusting-start : (xs : List ℕ) (r : Resource) (c : Chain) (n m : ℕ) → Adjustable xs r (listed c) n m → Adjusting xs r c n m xs 0
-adjusting-start xs r c n m k = record { done = adjusted-none xs r n m (k .long); bound = omega arith }
+    pub rising-low : here < groups
+    rising-low = k .sound .range here (p .live)
 
-module _ (xs : List ℕ) (r : Resource) (c : Chain) (n m : ℕ) (w : Whole c) (k : Adjustable xs r (listed c) n m) (ys : List ℕ) (i : ℕ) (p : Adjusting xs r c n m ys i) where
-  passed-all : c .len ≤ i → take i (listed c) ≡ listed c
-  passed-all h = take-all i (listed c) (rw length-take (omega (arith, w .long, w .few)))
+    pub rising-room : sumIn ys r here + n < 18446744073709551616
+    rising-room = rw same-sum (k .room here (p .on))
 
-  pub adjusting-end : c .len ≤ i → Adjusted xs ys r (listed c) n m
-  adjusting-end h = rw (passed-all h) at (p .done)
+    pub rising-enough : m ≤ sumIn ys r here + n
+    rising-enough = rw same-sum (k .enough here (p .on))
 
-  module _ (h : i < c .len) where
-    in-list : i < length (listed c)
-    in-list = rw length-take (omega (arith, w .long, w .few))
+    -- this group too
+    module _ (zs : List ℕ) (e : zs ≡ put ys here (sumField r) (sumIn ys r here + n - m)) where
+      tree-after : view zs ≡ view xs
+      tree-after = view-stored ys zs r here _ (p .long) rising-low e ∙ p .tree
 
-    same-place : getD (listed c) i 0 ≡ getD (c .at) i 0
-    same-place = getD-take (c .len) (c .at) i 0 h
+      parent-after : (up : ℕ) → up ≡ parents (view zs) here → up ≡ parents (view xs) here
+      parent-after up u = u ∙ ap (λ (t : Tree). parents t here) tree-after
 
-    out : member (getD (c .at) i 0) (take i (listed c)) ≡ false
-    out = rw same-place at (not-before (listed c) i (k .apart) in-list)
+      here-after : sumIn zs r here ≡ pick (inside (parents (view xs)) here g) (sumIn xs r here + n - m) (sumIn xs r here)
+      here-after = sum-here ys zs r here _ (p .long) rising-low e ∙ rw (p .on) (ap (λ x. x + n - m) same-sum)
 
-    pub adjusting-low : getD (c .at) i 0 < groups
-    adjusting-low = k .low _ (on-chain c w i h)
+      else-after : (a : ℕ) → a ≢ here → sumIn zs r a ≡ sumIn ys r a
+      else-after = sum-elsewhere ys zs r here _ (p .long) rising-low e
 
-    was-sum : sumIn ys r (getD (c .at) i 0) ≡ sumIn xs r (getD (c .at) i 0)
-    was-sum = p .done .sums (getD (c .at) i 0) ∙ rw out
+      other-after : (q : Resource) → q ≢ r → (a : ℕ) → sumIn zs q a ≡ sumIn xs q a
+      other-after q ne a = sum-of-other ys zs r here _ (p .long) rising-low e q ne a ∙ p .other q ne a
 
-    pub adjusting-room : sumIn ys r (getD (c .at) i 0) + n < 18446744073709551616
-    adjusting-room = rw was-sum (k .room _ (on-chain c w i h))
+      -- the sum of a group that is not above
+      done-after : (a : ℕ) → (a ≢ here → inside (parents (view xs)) a here ≡ false)
+          → sumIn zs r a ≡ pick (inside (parents (view xs)) a g) (sumIn xs r a + n - m) (sumIn xs r a)
+      done-after a below = whether a here (λ d. rw d here-after) (λ ne. else-after a ne ∙ p .done a (below ne))
 
-    pub adjusting-enough : m ≤ sumIn ys r (getD (c .at) i 0) + n
-    adjusting-enough = rw was-sum (k .enough _ (on-chain c w i h))
+      pub rising-next : here ≢ 0 → (up : ℕ) → up ≡ parents (view zs) here → Rising xs r g n m zs up
+      rising-next nz up u =
+          let s = k .sound in
+          rw (parent-after up u)
+          (record {
+            long = stored ys zs r here _ (p .long) rising-low e .long;
+            tree = tree-after;
+            on = inside-trans s (parents (view xs) here) here g (k .live) (p .on)
+                (inside-up s (parents (view xs) here) here (p .live) nz (inside-self s (parents (view xs) here) (s .above here (p .live) nz)));
+            live = s .above here (p .live) nz;
+            left = λ a i.
+                else-after a (λ d. absurd (omega (
+                  arith,
+                  inside-shallow s here (parents (view xs) here) (s .above here (p .live) nz) (rw d at i),
+                  s .deeper here (p .live) nz,
+                )))
+                ∙ p .left a (inside-up s a here (p .live) nz i);
+            done = λ a o.
+                done-after a
+                (λ ne. split (inside (parents (view xs)) a here)
+                (λ y. ⊎-elim (λ d. absurd (ne d)) (λ i. clash _ i o) (inside-cases s a here (p .live) nz y))
+                (λ no. no));
+            other = other-after;
+          })
 
-    pub adjusting-next : (zs : List ℕ) (was : ℕ) → was ≡ sumIn ys r (getD (c .at) i 0) → zs ≡ put ys (getD (c .at) i 0) (sumField r) (was + n - m)
-        → Adjusting xs r c n m zs (i + 1)
-    adjusting-next zs was f e =
-        let one : take (i + 1) (listed c) ≡ take i (listed c) ++ (getD (c .at) i 0 ∷ []) =
-        rw (add-one, ← same-place) (take-suc (listed c) i 0 in-list) in
-        record {
-          done = rw one (adjusted-more xs ys zs r (take i (listed c)) (getD (c .at) i 0) n m (p .done) out adjusting-low
-              (rw f at e));
-          bound = omega arith;
-        }
+      pub rising-less : here ≢ 0 → (up : ℕ) → up ≡ parents (view zs) here → depths (view xs) up < depths (view xs) here
+      rising-less nz up u = rw (parent-after up u) (omega (arith, k .sound .deeper here (p .live) nz))
+
+      pub rising-end : here ≡ 0 → Adjusted xs zs r g n m
+      rising-end z =
+          record {
+            long = stored ys zs r here _ (p .long) rising-low e .long;
+            tree = tree-after;
+            sums = λ a.
+                done-after a
+                (λ ne. split (inside (parents (view xs)) a here)
+                (λ y. absurd (ne (inside-root (k .sound) a (rw z at y) ∙ sym z)))
+                (λ no. no));
+            other = other-after;
+          }

@@ -4,21 +4,20 @@ use Prim.Native.Nat.{ℕ, zero, suc, _+_, _≤_, _<_}
 use native.Mathlib.Omega.{arith}
 use mathlib.Core.Bool.{Bool, true, false}
 use mathlib.Core.List.{List, [], _∷_}
-use mathlib.Core.Logic.{⊎-elim}
-use mathlib.Core.Path.{_≡_, refl, ap₂}
+use mathlib.Core.Path.{_≡_, refl, ap, ap₂, _∙_}
 use Rattle.model.specs.Functions.{pick, weigh, sum, member}
 use Rattle.model.specs.Sizes.{groups, processes, largestMachine}
 use Rattle.model.specs.Tree.{Tree, Core, Place, nowhere, at, groupOf, cores, lives, parents, places}
-use Rattle.model.specs.Hierarchy.{chain, inside, held, ownPages, headcount, usage, population, amount}
-use Rattle.model.specs.Rooms.{Room, full, over, actingLimit, consult}
+use Rattle.model.specs.Hierarchy.{chain, inside, held, ownPages, headcount, usage, population, amount, factsOf}
+use Rattle.model.specs.Rooms.{Room, full, over, actingLimit, consult, roomFor}
 use Rattle.model.specs.WellFormed.{Sound, WellFormed}
 use Rattle.model.specs.declared.Resource.{Resource}
 use Rattle.model.specs.declared.Resource.the-variants.{Pages, Processes}
 use Rattle.model.specs.declared.Limit.{Limit}
 use Rattle.model.proofs.FunctionLaws.{split, weigh-yes, weigh-no, member-here, member-there}
-use Rattle.model.proofs.ChainLaws.{tree-ind, chain-root, chain-up, inside-root, inside-live, inside-cases, root-inside}
+use Rattle.model.proofs.ChainLaws.{inside-live, root-inside}
 use Rattle.tree.specs.Layout.{view, sumIn}
-use Rattle.tree.specs.Counters.{listed, ChainOf, Apart, HasParent, Adjustable, Searchable}
+use Rattle.tree.specs.Counters.{listed, ChainOf, HasParent, Adjustable, Searchable}
 use Rattle.tree.specs.Kept.{Kept}
 use Rattle.tree.specs.declared.chain.Chain.{Chain}
 
@@ -59,29 +58,10 @@ pub amount-small : (t : Tree) → WellFormed t → (r : Resource) (a : ℕ) → 
 amount-small t w Pages a = omega (arith, usage-below-root t w a, w .sized .fits, w .sized .size)
 amount-small t w Processes a = omega (arith, population-few (cores t) (places t) a)
 
--- A chain has no group twice, and all its groups are live.
-module _ {live : ℕ → Bool} {up depth : ℕ → ℕ} (s : Sound live up depth) where
-  inside-shallow : (a g : ℕ) → live g ≡ true → inside up a g ≡ true → depth a ≤ depth g
-  inside-shallow a =
-      tree-ind s (λ g. inside up a g ≡ true → depth a ≤ depth g)
-      (λ h. rw (inside-root s a h) (omega arith))
-      (λ g l nz ih h. ⊎-elim (λ (e : a ≡ g). rw e (omega arith)) (λ m. omega (arith, ih m, s .deeper g l nz)) (inside-cases s a g l nz h))
-
-  pub chain-apart : (g : ℕ) → live g ≡ true → Apart (chain up g)
-  unfolding Apart member inside
-  chain-apart =
-      tree-ind s (λ g. Apart (chain up g))
-      (rw (chain-root s) (refl, tt))
-      (λ g l nz ih. rw (chain-up s g l nz) (
-        split (member g (chain up (up g)))
-            (λ y. absurd (omega (arith, inside-shallow g (up g) (s .above g l nz) y, s .deeper g l nz)))
-            (λ n. n),
-        ih,
-      ))
-
-  pub on-chain-live : (g a : ℕ) → live g ≡ true → member a (chain up g) ≡ true → live a ≡ true
-  unfolding inside
-  on-chain-live g a l m = inside-live s a g l m
+-- The groups of a chain are live.
+pub on-chain-live : {live : ℕ → Bool} {up depth : ℕ → ℕ} (s : Sound live up depth) (g a : ℕ) → live g ≡ true → member a (chain up g) ≡ true → live a ≡ true
+unfolding inside
+on-chain-live s g a l m = inside-live s a g l m
 
 -- The search for room asks for the amounts of its own groups only.
 consult-ext : (limit : ℕ → Limit) (f g : ℕ → ℕ) (n i : ℕ) (gs : List ℕ) → ((a : ℕ) → member a gs ≡ true → f a ≡ g a)
@@ -111,27 +91,31 @@ module _ (xs : List ℕ) (k : Kept xs) where
     pub searchable : (r : Resource) (n : ℕ) → n ≤ 1048576 → Searchable xs r (listed c) n
     searchable r n few =
         record {
-          rows = λ a m. live-row a (chain-live a m);
+          live = λ a m. record { kept = k; live = chain-live a m };
           room = λ a m. omega (arith, sum-small r a (chain-live a m));
         }
 
-    pub adjustable : (r : Resource) (n m : ℕ) → n ≤ 1048576
-        → ((a : ℕ) → inside (parents (view xs)) a g ≡ true → m ≤ amount (cores (view xs)) (places (view xs)) r a)
-        → Adjustable xs r (listed c) n m
-    unfolding inside
-    adjustable r n m few enough =
-        record {
-          long = k .long;
-          apart = rw (h .groups) (chain-apart (k .formed .sound) g l);
-          low = λ a i. k .formed .sound .range a (chain-live a i);
-          room = λ a i. omega (arith, sum-small r a (chain-live a i));
-          enough = λ a i. omega (arith, enough a (rw (h .groups) at i), k .sums r a (chain-live a i));
-        }
+  pub adjustable : (g : ℕ) → lives (view xs) g ≡ true → (r : Resource) (n m : ℕ) → n ≤ 1048576
+      → ((a : ℕ) → inside (parents (view xs)) a g ≡ true → m ≤ amount (cores (view xs)) (places (view xs)) r a)
+      → Adjustable xs r g n m
+  adjustable g l r n m few enough =
+      let s = k .formed .sound in
+      record {
+        long = k .long;
+        sound = s;
+        live = l;
+        room = λ a i. omega (arith, sum-small r a (inside-live s a g l i));
+        enough = λ a i. omega (arith, enough a i, k .sums r a (inside-live s a g l i));
+      }
 
   -- Room by the running sums is room by the definitions.
-  pub room-same : (r : Resource) (n g : ℕ) → lives (view xs) g ≡ true
+  room-same : (r : Resource) (n g : ℕ) → lives (view xs) g ≡ true
       → consult (actingLimit (view xs) r) (sumIn xs r) n 0 (chain (parents (view xs)) g)
       ≡ consult (actingLimit (view xs) r) (amount (cores (view xs)) (places (view xs)) r) n 0 (chain (parents (view xs)) g)
   room-same r n g l =
       consult-ext (actingLimit (view xs) r) (sumIn xs r) (amount (cores (view xs)) (places (view xs)) r) n 0 (chain (parents (view xs)) g)
       (λ a m. k .sums r a (on-chain-live (k .formed .sound) g a l m))
+
+  pub room-found : (g : ℕ) → lives (view xs) g ≡ true → (c : Chain) → ChainOf (view xs) g c → (r : Resource) (n : ℕ) (x : Room)
+      → x ≡ consult (actingLimit (view xs) r) (sumIn xs r) n 0 (listed c) → x ≡ roomFor (factsOf (view xs)) r n g
+  room-found g l c h r n x e = e ∙ ap (consult (actingLimit (view xs) r) (sumIn xs r) n 0) (h .groups) ∙ room-same r n g l

@@ -6,7 +6,6 @@ pub mod WalkLaws
 pub mod AdjustLaws
 pub mod ActingLaws
 pub mod KeptLaws
-pub mod SearchLaws
 pub mod CallLaws
 pub mod TestLaws
 pub mod FreshLaws

@@ -1,15 +1,15 @@
--- Calls that ask a chain for room, and the running sums that are adjusted along it: a running sum after an adjustment, what a
+-- Calls that ask a chain for room, and the running sums that are adjusted above a group: a running sum after an adjustment, what a
 -- charge or a fork may ask of the chain, and how each of its answers keeps its promise. Once for either resource. Assumes nothing.
 use Prim.Native.Nat.{ℕ, _+_, _-_, _≤_}
 use native.Mathlib.Omega.{arith}
 use mathlib.Core.Bool.{Bool, true}
 use mathlib.Core.List.{List, _++_}
 use mathlib.Core.Path.{_≡_, ap, sym, _∙_}
-use Rattle.model.specs.Functions.{pick, weigh, member}
+use Rattle.model.specs.Functions.{weigh}
 use Rattle.model.specs.Sizes.{largestCharge}
 use Rattle.model.specs.Checks.{Check, first}
 use Rattle.model.specs.Tree.{isLive, parents, places}
-use Rattle.model.specs.Hierarchy.{inside, chain, factsOf}
+use Rattle.model.specs.Hierarchy.{inside, factsOf}
 use Rattle.model.specs.Rooms as R
 use Rattle.model.specs.Rooms.{actingLimit, consult, roomFor, shortage}
 use Rattle.model.specs.Rules.{processGroup}
@@ -31,21 +31,18 @@ use Rattle.tree.specs.Calling.{Calling, Applied}
 use Rattle.tree.specs.declared.chain.Chain.{Chain}
 use Rattle.tree.specs.declared.counter.Room.{Room}
 use Rattle.tree.specs.declared.counter.Room.the-variants.{Fits, Full}
-use Rattle.tree.proofs.KeptLaws.{searchable}
-use Rattle.tree.proofs.SearchLaws.{room-found, consulted-all}
+use Rattle.tree.proofs.KeptLaws.{searchable, room-found}
 use Rattle.tree.proofs.CallLaws.{call-refused, call-done}
 
--- A running sum after n more and m less along a chain.
-pub sum-after-adjust : (xs ys : List ℕ) (g : ℕ) (c : Chain) (r : Resource) (n m : ℕ) → ChainOf (view xs) g c → Adjusted xs ys r (listed c) n m
+-- A running sum after n more and m less in g and above.
+pub sum-after-adjust : (xs ys : List ℕ) (g : ℕ) (r : Resource) (n m : ℕ) → Adjusted xs ys r g n m
     → ((a : ℕ) → inside (parents (view xs)) a g ≡ true → m ≤ sumIn xs r a + n) → (a : ℕ)
     → sumIn ys r a + weigh (inside (parents (view xs)) a g) m ≡ sumIn xs r a + weigh (inside (parents (view xs)) a g) n
-unfolding inside
-sum-after-adjust xs ys g c r n m h d enough a =
-    let b : Bool = member a (chain (parents (view xs)) g) in
-    let e : sumIn ys r a ≡ pick b (sumIn xs r a + n - m) (sumIn xs r a) = d .sums a ∙ rw (h .groups) in
+sum-after-adjust xs ys g r n m d enough a =
+    let b : Bool = inside (parents (view xs)) a g in
     split b
-    (λ y. let z : sumIn ys r a ≡ sumIn xs r a + n - m = rw y at e in omega (arith, enough a y, weigh-yes b m y, weigh-yes b n y))
-    (λ o. let z : sumIn ys r a ≡ sumIn xs r a = rw o at e in omega (arith, weigh-no b m o, weigh-no b n o))
+    (λ y. let z : sumIn ys r a ≡ sumIn xs r a + n - m = d .sums a ∙ rw y in omega (arith, enough a y, weigh-yes b m y, weigh-yes b n y))
+    (λ o. let z : sumIn ys r a ≡ sumIn xs r a = d .sums a ∙ rw o in omega (arith, weigh-no b m o, weigh-no b n o))
 
 -- A call on kept words whose checks are a list cs and then the room for n more in the group of process p.
 pub record RoomCall (xs : List ℕ) (call : Call) (r : Resource) (n p : ℕ) (cs : List Check) (expected : RoomAnswer) : Type 0 where
@@ -77,7 +74,7 @@ module _ {xs : List ℕ} {call : Call} {r : Resource} {n p : ℕ} {cs : List Che
       -- what the search for room found
       module _ (x : Room) (f : roomOf x ≡ consult (actingLimit (view xs) r) (sumIn xs r) n 0 (listed c)) where
         found : roomOf x ≡ roomFor (factsOf (view xs)) r n (processGroup (view xs) p)
-        found = rw (← v .group) (room-found xs (o .kept) r n g (room-call-home .live) c h x f)
+        found = rw (← v .group) (room-found xs (o .kept) g (room-call-home .live) c h r n (roomOf x) f)
 
         -- a group had no room
         pub room-call-full : (s : GroupId) (i : ℕ) → x ≡ Full s i → Calling xs xs call expected (RoomAnswer.NoRoom s i)
@@ -94,7 +91,6 @@ module _ {xs : List ℕ} {call : Call} {r : Resource} {n p : ℕ} {cs : List Che
           pub room-call-accepted : verdict (view xs) call ≡ Answer.Done
           room-call-accepted = o .verdict ∙ verdict-room cs _ r (v .passed) i enough
 
-          pub room-call-granted : (ys : List ℕ) → Applied xs ys call → Calling xs ys call expected (RoomAnswer.Granted (c .len))
+          pub room-call-granted : (ys : List ℕ) → Applied xs ys call → Calling xs ys call expected (RoomAnswer.Granted i)
           room-call-granted ys d =
-              let all : i ≡ c .len = consulted-all xs (o .kept) r n g (room-call-home .live) c h i (rw (v .group) enough) in
-              call-done xs (o .kept) call room-call-accepted ys expected _ d (sym (o .answer ∙ rw (v .passed, enough, all)))
+              call-done xs (o .kept) call room-call-accepted ys expected _ d (sym (o .answer ∙ rw (v .passed, enough)))

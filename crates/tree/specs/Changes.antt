@@ -5,9 +5,10 @@ use mathlib.Core.List.{List}
 use mathlib.Core.Logic.{_≢_}
 use mathlib.Core.Path.{_≡_}
 use lib.ListN.{length}
-use Rattle.model.specs.Functions.{pick, member}
+use Rattle.model.specs.Functions.{pick}
 use Rattle.model.specs.Sizes.{groups, processes}
-use Rattle.model.specs.Tree.{Tree, Controls, Settings, settingsAt, withOwn, withCore, withOwner, withSet, withSettings, withLimit, atGroup}
+use Rattle.model.specs.Tree.{Tree, Controls, Settings, parents, settingsAt, withOwn, withCore, withOwner, withSet, withSettings, withLimit, atGroup}
+use Rattle.model.specs.Hierarchy.{inside}
 use Rattle.model.specs.declared.Resource.{Resource}
 use Rattle.model.specs.declared.Limit.{Limit}
 use Rattle.model.specs.declared.Limit.the-variants.{NoLimit, Figure}
@@ -67,9 +68,9 @@ pub record Cleared (xs ys : List ℕ) (t : Tree) (g : ℕ) : Type 0 where
   pub here : (r : Resource) → sumIn ys r g ≡ 0
   pub other : (r : Resource) (h : ℕ) → h ≢ g → sumIn ys r h ≡ sumIn xs r h
 
--- the running sums of a resource have n more and m less in each group of a list, and nothing else changed
-pub record Adjusted (xs ys : List ℕ) (r : Resource) (gs : List ℕ) (n m : ℕ) : Type 0 where
+-- the running sums of a resource have n more and m less in g and each group above it, and nothing else changed
+pub record Adjusted (xs ys : List ℕ) (r : Resource) (g n m : ℕ) : Type 0 where
   pub long : length ys ≡ words
   pub tree : view ys ≡ view xs
-  pub sums : (g : ℕ) → sumIn ys r g ≡ pick (member g gs) (sumIn xs r g + n - m) (sumIn xs r g)
-  pub other : (q : Resource) → q ≢ r → (g : ℕ) → sumIn ys q g ≡ sumIn xs q g
+  pub sums : (a : ℕ) → sumIn ys r a ≡ pick (inside (parents (view xs)) a g) (sumIn xs r a + n - m) (sumIn xs r a)
+  pub other : (q : Resource) → q ≢ r → (a : ℕ) → sumIn ys q a ≡ sumIn xs q a

@@ -19,17 +19,21 @@ pub fn chain_of(t: &Tree, g: GroupId) -> Chain
     requires { ⌜ KeptAt (now t) (g .0) ⌝ }
     ensures { λ r. ⌜ ChainOf (view (now (t .entry))) (g .0) r ⌝ }
 {
-    let mut at = [0u64; CHAIN];
+    let mut c = Chain {
+        at: [0u64; CHAIN],
+        len: 1,
+    };
     let mut here = g.0;
     let mut i: usize = 0;
     while here != 0 {
-        at[i] = here;
+        c.at[i] = here;
         let above = parent(t, GroupId(here));
         here = above.0;
         i += 1;
     }
-    at[i] = 0;
-    Chain { at: at, len: i + 1 }
+    c.at[i] = 0;
+    c.len = i + 1;
+    c
 }
 
 // The lowest group that is on both chains.

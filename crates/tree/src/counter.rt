@@ -1,15 +1,15 @@
 // The running sums along a chain, and whether each group on it has room. Written once for pages and for processes.
 ghost use mathlib.Core.Path.{_≡_};
-ghost use Prim.Native.Nat.{_+_, _<_};
+ghost use Prim.Native.Nat.{_+_, _-_, _<_, _≤_};
 ghost use Rattle.model.specs.Sizes.{groups};
 ghost use Rattle.model.specs.Tree.{controllerOf};
-ghost use Rattle.model.specs.Rooms.{over, actingLimit, consult};
-ghost use Rattle.tree.specs.Layout.{view, sumIn};
+ghost use Rattle.model.specs.Rooms.{over, rootLimit, actingLimit, consult};
+ghost use Rattle.tree.specs.Layout.{put, view, sumField, sumIn};
 ghost use Rattle.tree.specs.Changes.{Adjusted};
-ghost use Rattle.tree.specs.Counters.{Whole, listed, HasParent, Adjustable, Searchable, roomOf};
+ghost use Rattle.tree.specs.Kept.{KeptAt};
+ghost use Rattle.tree.specs.Counters.{Whole, listed, Adjustable, Searchable, roomOf};
 use super::chain::Chain;
 use super::layout::Tree;
-use super::layout::has;
 use super::layout::limit;
 use super::layout::machine;
 use super::layout::parent;
@@ -45,30 +45,26 @@ pub fn is_over(n: u64, l: Limit) -> bool
     max < n
 }
 
-// The limit that acts in a group: its own where the controller is on there, and for the root the machine.
-pub fn acting_limit(t: &Tree, g: GroupId, r: Resource) -> Limit
-    requires { ⌜ HasParent (now t) (g .0) ⌝ }
-    ensures { λ l. ⌜ l ≡ actingLimit (view (now (t .entry))) r (g .0) ⌝ }
+// The root's: the machine for pages, and none for processes.
+fn root_limit(t: &Tree, r: Resource) -> Limit
+    ensures { λ l. ⌜ l ≡ rootLimit (view (now (t .entry))) r ⌝ }
 {
-    if g.0 == 0 {
-        match r {
-            Resource::Pages => return Limit::Figure(machine(t)),
-            Resource::Processes => return Limit::NoLimit,
-        }
+    match r {
+        Resource::Pages => Limit::Figure(machine(t)),
+        Resource::Processes => Limit::NoLimit,
     }
-    if has(t, parent(t, g), controller_of(r)) {
-        return limit(t, g, r);
-    }
-    Limit::NoLimit
 }
 
-// Whether n more would pass the limit that acts in a group.
+// Whether n more would pass the limit that acts in a group. Where the controller is off a group has no limit, so its own acts.
 pub fn is_full(t: &Tree, g: GroupId, r: Resource, n: u64) -> bool
-    requires { ⌜ HasParent (now t) (g .0) × (sumIn (now t) r (g .0) + n < 18446744073709551616) ⌝ }
+    requires { ⌜ KeptAt (now t) (g .0) × (sumIn (now t) r (g .0) + n < 18446744073709551616) ⌝ }
     ensures { λ b. ⌜ b ≡ over (sumIn (now (t .entry)) r (g .0) + n) (actingLimit (view (now (t .entry))) r (g .0)) ⌝ }
 {
     let wanted = sum(t, g, r) + n;
-    is_over(wanted, acting_limit(t, g, r))
+    if g.0 == 0 {
+        return is_over(wanted, root_limit(t, r));
+    }
+    is_over(wanted, limit(t, g, r))
 }
 
 // The first group of a chain, going up, that has no room for n more.
@@ -88,17 +84,27 @@ pub fn first_full(t: &Tree, c: Chain, r: Resource, n: u64) -> Room
     Room::Fits(i as u64)
 }
 
-// n more and m less in the running sum of each group of a chain.
-pub fn adjust_along(t: &mut Tree, c: Chain, r: Resource, more: u64, less: u64)
-    requires { ⌜ Whole c × Adjustable (now t) r (listed c) more less ⌝ }
-    ensures { λ _. ⌜ Adjusted (now (t .entry)) (now (t .exit)) r (listed c) more less ⌝ }
+// More and less in the running sum of one group.
+fn adjust(t: &mut Tree, g: GroupId, r: Resource, more: u64, less: u64)
+    requires { ⌜ (g .0 < groups) × ((sumIn (now t) r (g .0) + more < 18446744073709551616) × (less ≤ sumIn (now t) r (g .0) + more)) ⌝ }
+    ensures { λ _. ⌜ now (t .exit) ≡ put (now (t .entry)) (g .0) (sumField r) (sumIn (now (t .entry)) r (g .0) + more - less) ⌝ }
 {
-    let mut i: usize = 0;
-    while i < c.len {
-        let g = c.at[i];
-        let was = sum(t, GroupId(g), r);
-        let next = was + more - less;
-        set_sum(t, GroupId(g), r, next);
-        i += 1;
+    let was = sum(t, g, r);
+    let next = was + more - less;
+    set_sum(t, g, r, next);
+}
+
+// More and less in the running sum of a group and of each group above it.
+pub fn adjust_up(t: &mut Tree, g: GroupId, r: Resource, more: u64, less: u64)
+    requires { ⌜ Adjustable (now t) r (g .0) more less ⌝ }
+    ensures { λ _. ⌜ Adjusted (now (t .entry)) (now (t .exit)) r (g .0) more less ⌝ }
+{
+    let mut here = g.0;
+    while here != 0 {
+        adjust(t, GroupId(here), r, more, less);
+        let above = parent(t, GroupId(here));
+        here = above.0;
     }
+    // the root
+    adjust(t, GroupId(here), r, more, less);
 }

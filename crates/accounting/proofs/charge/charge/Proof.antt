@@ -13,7 +13,7 @@ use Rattle.accounting.proofs.charge.charge.Statement.{statement}
 use Rattle.accounting.proofs.charge.charge.Tie as tie
 
 -- the places on the way, from the last to the first
-abbrev found-at : tie.After-enum-told2 → tie.After-first-full
+abbrev found-at : tie.After-found → tie.After-first-full
 found-at c = c .before .before
 
 abbrev chain-at : tie.After-first-full → tie.After-chain-of
@@ -75,37 +75,36 @@ first-full-requires c κs =
 enum-known-found : tie.Need-enum-known-found
 enum-known-found c = search needs
 
+enum-known-found-2 : tie.Need-enum-known-found-2
+enum-known-found-2 c = search needs
+
 -- no room
 returns-2 : tie.Need-returns-2
 returns-2 c =
     let f = c .before .before .before in
     let h = chain-at f in
     let g = group-at h in
-    room-call-full (charge-call _ (start (vet-at (done-at g)) .pre) _ _) (vetted g) (h .chain-of .ensures) _ (f .first-full .ensures) _ _ (c .before .found .given .1)
-
-enum-told-2 : tie.Need-enum-told-2
-enum-told-2 c = search needs
+    room-call-full (charge-call _ (start (vet-at (done-at g)) .pre) _ _) (vetted g) (h .chain-of .ensures) _ (f .first-full .ensures) _ _ (c .before .found2 .given .1)
 
 adjust-pages-requires : tie.Need-adjust-pages-requires
 adjust-pages-requires c κs =
-    let h = chain-at (found-at (c .before)) in
-    let g = group-at h in
+    let g = group-at (chain-at (found-at (c .before .before))) in
     let d = done-at g in
-    charge-adjustable _ _ _ _ (passed d) (g .process-group .ensures) (room-call-home (charge-call _ (start (vet-at d) .pre) _ _) (vetted g)) _ (h .chain-of .ensures)
+    charge-adjustable _ _ _ _ (passed d) (g .process-group .ensures) (room-call-home (charge-call _ (start (vet-at d) .pre) _ _) (vetted g))
 
 -- granted
 returns-3 : tie.Need-returns-3
 returns-3 c =
-    let e = c .before .before in
+    let e = c .before .before .before in
     let f = found-at e in
     let h = chain-at f in
     let g = group-at h in
     let d = done-at g in
     let o = charge-call _ (start (vet-at d) .pre) _ _ in
     let v = vetted g in
-    room-call-granted o v (h .chain-of .ensures) _ (f .first-full .ensures) _ (e .enum-told2 .given .1) _
+    room-call-granted o v (h .chain-of .ensures) _ (f .first-full .ensures) _ (e .found .given .1) _
     (charged _ _ _ _ (passed d) (g .process-group .ensures) (start (vet-at d) .pre)
-    (room-call-accepted o v (h .chain-of .ensures) _ (f .first-full .ensures) _ (e .enum-told2 .given .1)) _ (c .adjust-pages .ensures))
+    (room-call-accepted o v (h .chain-of .ensures) _ (f .first-full .ensures) _ (e .found .given .1)) _ (c .adjust-pages .ensures))
 
 pub charge-spec : {M : Type 1} → statement M
 charge-spec =
@@ -119,7 +118,7 @@ charge-spec =
     chain-of-requires
     first-full-requires
     enum-known-found
+    enum-known-found-2
     returns-2
-    enum-told-2
     adjust-pages-requires
     returns-3)

@@ -1,4 +1,4 @@
--- `accounting::pages::adjust_pages` meets its contract: the sums along the chain change as the usage does. Assumes nothing.
+-- `accounting::pages::adjust_pages` meets its contract: the sums above change as the usage does. Assumes nothing.
 use native.Mathlib.Omega.{arith}
 use Rattle.accounting.proofs.PagesLaws.{group-low, own-small, sums-adjustable, pages-adjusted}
 use borrow.Author.Needs.{needs}
@@ -6,31 +6,31 @@ use Rattle.accounting.proofs.pages.adjust_pages.Statement.{statement}
 use Rattle.accounting.proofs.pages.adjust_pages.Tie as tie
 
 own-requires : tie.Need-own-requires
-own-requires c κs = group-low _ _ _ _ _ (c .before .pre)
+own-requires c κs = group-low _ _ _ _ (c .before .pre)
 
 add-next : tie.Need-add-next
-add-next c = omega (arith, c .own .ensures, own-small _ _ _ _ _ (c .before .before .pre))
+add-next c = omega (arith, c .own .ensures, own-small _ _ _ _ (c .before .before .pre))
 
 sub-next : tie.Need-sub-next
 sub-next c = search needs
 
-adjust-along-requires : tie.Need-adjust-along-requires
-adjust-along-requires c κs =
+adjust-up-requires : tie.Need-adjust-up-requires
+adjust-up-requires c κs =
     let s = c .before .before .before in
-    (s .pre .chain .whole, sums-adjustable _ _ _ _ _ (s .pre) _ _ (omega (arith, s .pre .few)) (omega (arith, s .pre .enough)))
+    sums-adjustable _ _ _ _ (s .pre) _ _ (omega (arith, s .pre .few)) (omega (arith, s .pre .enough))
 
 set-own-requires : tie.Need-set-own-requires
 set-own-requires c κs =
-    record { long = c .before .adjust-along .ensures .long; low = group-low _ _ _ _ _ (c .before .before .before .before .before .pre) }
+    record { long = c .before .adjust-up .ensures .long; low = group-low _ _ _ _ (c .before .before .before .before .before .pre) }
 
 returns : tie.Need-returns
 returns c =
     let a = c .before .before in
     let o = a .before .before in
     let s = o .before .before in
-    pages-adjusted _ _ _ _ _ (s .pre) _ _ _ (a .adjust-along .ensures) (c .set-own .ensures) (omega (arith, o .own .ensures))
+    pages-adjusted _ _ _ _ (s .pre) _ _ _ (a .adjust-up .ensures) (c .set-own .ensures) (omega (arith, o .own .ensures))
 
 pub adjust-pages-spec : {M : Type 1} → statement M
 adjust-pages-spec =
     tie.close
-    (tie.spec own-requires add-next sub-next adjust-along-requires set-own-requires returns)
+    (tie.spec own-requires add-next sub-next adjust-up-requires set-own-requires returns)

@@ -1,6 +1,6 @@
 -- `accounting::release::release` meets its contract: what its checks answer is the verdict, and the stores after them are the
 -- definition's effect. Assumes nothing.
-use Rattle.accounting.proofs.ReleaseLaws.{release-refused, release-home, release-adjustable, release-done}
+use Rattle.accounting.proofs.ReleaseLaws.{release-refused, release-adjustable, release-done}
 use borrow.Author.Needs.{needs}
 use Rattle.accounting.proofs.release.release.Statement.{statement}
 use Rattle.accounting.proofs.release.release.Tie as tie
@@ -21,26 +21,17 @@ returns c =
     let s = v .before .before in
     release-refused _ (s .pre) _ _ _ (v .vet-release .ensures) _ (c .enum-told2 .given .1)
 
-chain-of-requires : tie.Need-chain-of-requires
-chain-of-requires c κs =
+adjust-pages-requires : tie.Need-adjust-pages-requires
+adjust-pages-requires c κs =
     let d = c .before in
     let v = d .before .before in
     let s = v .before .before in
-    release-home _ (s .pre) _ _ _ (v .vet-release .ensures) (d .enum-told .given .1)
-
-adjust-pages-requires : tie.Need-adjust-pages-requires
-adjust-pages-requires c κs =
-    let h = c .before in
-    let d = h .before .before in
-    let v = d .before .before in
-    let s = v .before .before in
-    release-adjustable _ (s .pre) _ _ _ (v .vet-release .ensures) (d .enum-told .given .1) _ (h .chain-of .ensures)
+    release-adjustable _ (s .pre) _ _ _ (v .vet-release .ensures) (d .enum-told .given .1)
 
 -- done
 returns-2 : tie.Need-returns-2
 returns-2 c =
-    let h = c .before .before in
-    let d = h .before .before in
+    let d = c .before .before in
     let v = d .before .before in
     let s = v .before .before in
     release-done _ (s .pre) _ _ _ (v .vet-release .ensures) (d .enum-told .given .1) _ (c .adjust-pages .ensures)
@@ -53,6 +44,5 @@ release-spec =
     enum-told
     enum-told-2
     returns
-    chain-of-requires
     adjust-pages-requires
     returns-2)

@@ -30,20 +30,16 @@ returns c =
     let s = v .before .before in
     call-refused _ (s .pre) _ _ _ _ (sym (v .vet-admit .ensures _) ∙ c .enum-told2 .given .1) (v .vet-admit .ensures _)
 
-chain-of-requires : tie.Need-chain-of-requires
-chain-of-requires c κs = search needs
-
 enter-requires : tie.Need-enter-requires
 enter-requires c κs =
-    let h = c .before in
-    let d = h .before .before in
+    let d = c .before in
     let s = d .before .before .before .before in
-    admit-vacant _ (s .pre) _ _ (accepted d) _ (h .chain-of .ensures)
+    admit-vacant _ (s .pre) _ _ (accepted d)
 
 -- done
 returns-2 : tie.Need-returns-2
 returns-2 c =
-    let d = c .before .before .before .before in
+    let d = c .before .before in
     let s = d .before .before .before .before in
     admitted _ (s .pre) _ _ (accepted d) _ (c .enter .ensures)
 
@@ -55,6 +51,5 @@ admit-spec =
     enum-told
     enum-told-2
     returns
-    chain-of-requires
     enter-requires
     returns-2)

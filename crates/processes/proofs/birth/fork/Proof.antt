@@ -14,7 +14,7 @@ use Rattle.processes.proofs.birth.fork.Statement.{statement}
 use Rattle.processes.proofs.birth.fork.Tie as tie
 
 -- the places on the way, from the last to the first
-abbrev found-at : tie.After-enum-told2 → tie.After-first-full
+abbrev found-at : tie.After-found → tie.After-first-full
 found-at c = c .before .before
 
 abbrev chain-at : tie.After-first-full → tie.After-chain-of
@@ -83,28 +83,27 @@ first-full-requires c κs =
 enum-known-found : tie.Need-enum-known-found
 enum-known-found c = search needs
 
+enum-known-found-2 : tie.Need-enum-known-found-2
+enum-known-found-2 c = search needs
+
 -- no room
 returns-2 : tie.Need-returns-2
 returns-2 c =
     let f = c .before .before .before in
     let h = chain-at f in
     let g = group-at (user-at h) in
-    room-call-full (fork-call _ (start (vet-at (done-at g)) .pre) _ _) (vetted g) (h .chain-of .ensures) _ (f .first-full .ensures) _ _ (c .before .found .given .1)
-
-enum-told-2 : tie.Need-enum-told-2
-enum-told-2 c = search needs
+    room-call-full (fork-call _ (start (vet-at (done-at g)) .pre) _ _) (vetted g) (h .chain-of .ensures) _ (f .first-full .ensures) _ _ (c .before .found2 .given .1)
 
 enter-requires : tie.Need-enter-requires
 enter-requires c κs =
-    let h = chain-at (found-at (c .before)) in
-    let g = group-at (user-at h) in
+    let g = group-at (user-at (chain-at (found-at (c .before .before)))) in
     let d = done-at g in
-    fork-vacant _ _ _ _ (passed d) (g .process-group .ensures) (room-call-home (fork-call _ (start (vet-at d) .pre) _ _) (vetted g)) _ (h .chain-of .ensures)
+    fork-vacant _ _ _ _ (passed d) (g .process-group .ensures) (room-call-home (fork-call _ (start (vet-at d) .pre) _ _) (vetted g))
 
 -- granted
 returns-3 : tie.Need-returns-3
 returns-3 c =
-    let e = c .before .before in
+    let e = c .before .before .before in
     let f = found-at e in
     let h = chain-at f in
     let u = user-at h in
@@ -112,9 +111,9 @@ returns-3 c =
     let d = done-at g in
     let o = fork-call _ (start (vet-at d) .pre) _ _ in
     let v = vetted g in
-    room-call-granted o v (h .chain-of .ensures) _ (f .first-full .ensures) _ (e .enum-told2 .given .1) _
+    room-call-granted o v (h .chain-of .ensures) _ (f .first-full .ensures) _ (e .found .given .1) _
     (forked _ _ _ _ (passed d) (g .process-group .ensures) (start (vet-at d) .pre)
-    (room-call-accepted o v (h .chain-of .ensures) _ (f .first-full .ensures) _ (e .enum-told2 .given .1)) _ (u .process-user .ensures) _ (c .enter .ensures))
+    (room-call-accepted o v (h .chain-of .ensures) _ (f .first-full .ensures) _ (e .found .given .1)) _ (u .process-user .ensures) _ (c .enter .ensures))
 
 pub fork-spec : {M : Type 1} → statement M
 fork-spec =
@@ -129,7 +128,7 @@ fork-spec =
     chain-of-requires
     first-full-requires
     enum-known-found
+    enum-known-found-2
     returns-2
-    enum-told-2
     enter-requires
     returns-3)

@@ -4,10 +4,9 @@ use mathlib.Core.Path.{_≡_, sym, _∙_}
 use borrow.Author.Needs.{needs}
 use Rattle.model.specs.Calls.{exit, verdict}
 use Rattle.model.specs.declared.Answer.the-variants.{Done}
-use Rattle.model.proofs.ProcessLaws.{process-range}
 use Rattle.tree.specs.Layout.{view}
 use Rattle.tree.proofs.CallLaws.{call-refused}
-use Rattle.processes.proofs.ExitLaws.{exit-live, exit-home, exit-standing, exit-done}
+use Rattle.processes.proofs.ExitLaws.{exit-standing, exit-done}
 use Rattle.processes.proofs.exit.exit.Statement.{statement}
 use Rattle.processes.proofs.exit.exit.Tie as tie
 
@@ -31,31 +30,16 @@ returns c =
     let s = v .before .before in
     call-refused _ (s .pre) _ _ _ _ (sym (v .vet-exit .ensures) ∙ c .enum-told2 .given .1) (v .vet-exit .ensures)
 
-process-group-requires : tie.Need-process-group-requires
-process-group-requires c κs =
-    let d = c .before in
-    let s = d .before .before .before .before in
-    process-range _ (s .pre .formed) _ (exit-live _ (s .pre) _ (accepted d))
-
-chain-of-requires : tie.Need-chain-of-requires
-chain-of-requires c κs =
-    let g = c .before in
-    let d = g .before .before in
-    let s = d .before .before .before .before in
-    exit-home _ (s .pre) _ (accepted d) _ (g .process-group .ensures)
-
 leave-requires : tie.Need-leave-requires
 leave-requires c κs =
-    let h = c .before in
-    let g = h .before .before in
-    let d = g .before .before in
+    let d = c .before in
     let s = d .before .before .before .before in
-    exit-standing _ (s .pre) _ (accepted d) _ (g .process-group .ensures) _ (h .chain-of .ensures)
+    exit-standing _ (s .pre) _ (accepted d)
 
 -- done
 returns-2 : tie.Need-returns-2
 returns-2 c =
-    let d = c .before .before .before .before .before .before in
+    let d = c .before .before in
     let s = d .before .before .before .before in
     exit-done _ (s .pre) _ (accepted d) _ (c .leave .ensures)
 
@@ -67,7 +51,5 @@ exit-spec =
     enum-told
     enum-told-2
     returns
-    process-group-requires
-    chain-of-requires
     leave-requires
     returns-2)

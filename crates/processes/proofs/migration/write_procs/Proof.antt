@@ -4,22 +4,14 @@ use mathlib.Core.Path.{_≡_, sym, _∙_}
 use borrow.Author.Needs.{needs}
 use Rattle.model.specs.declared.Answer.the-variants.{Done}
 use Rattle.model.specs.Checks.{first}
-use Rattle.model.proofs.ProcessLaws.{process-range}
 use Rattle.tree.specs.Layout.{view}
-use Rattle.processes.specs.Place.{Moving}
 use Rattle.processes.specs.Migration.{groupChecks}
-use Rattle.processes.proofs.MigrationLaws.{group-refused, line-refused, LineVetted, line-vetted, procs-target, procs-live, procs-source, procs-moving, move-refused, moved}
+use Rattle.processes.proofs.MigrationLaws.{group-refused, line-refused, LineVetted, line-vetted, procs-moving, move-refused, moved}
 use Rattle.processes.proofs.migration.write_procs.Statement.{statement}
 use Rattle.processes.proofs.migration.write_procs.Tie as tie
 
 -- the places on the way, from the last to the first
-abbrev both-at : tie.After-vet-move → tie.After-chain-of2
-both-at c = c .before .before
-
-abbrev source-at : tie.After-chain-of2 → tie.After-chain-of
-source-at c = c .before .before
-
-abbrev named-at : tie.After-process-group → tie.After-named
+abbrev named-at : tie.After-vet-move → tie.After-named
 named-at c = c .before .before .before
 
 abbrev line-at : tie.After-named → tie.After-vet-line
@@ -45,14 +37,6 @@ vetted c =
     let l = line-at c in
     let o = open-at l in
     line-vetted _ _ _ _ _ (start (group-at o) .pre) (accepted o) _ (l .vet-line .ensures) (c .named .given .1)
-
--- both chains are made
-moving : (c : tie.After-chain-of2)
-    → let n = named-at (source-at c .before) in let a = start (group-at (open-at (line-at n))) .args in
-    Moving (a .tree .now) (n .named .given .0 .0 .0) (a .group .0) (source-at c .chain-of .result) (c .chain-of2 .result)
-moving c =
-    let s = source-at c in
-    procs-moving (vetted (named-at (s .before))) _ (s .before .process-group .ensures) _ _ (s .chain-of .ensures) (c .chain-of2 .ensures)
 
 vet-group-requires : tie.Need-vet-group-requires
 vet-group-requires c κs = search needs
@@ -85,20 +69,8 @@ returns-2 c =
     let o = open-at l in
     line-refused _ (start (group-at o) .pre) _ _ _ (accepted o) _ (l .vet-line .ensures) _ (c .before .named2 .given .1)
 
-process-group-requires : tie.Need-process-group-requires
-process-group-requires c κs =
-    let n = c .before .before in
-    let v = vetted n in
-    process-range _ (v .kept .formed) _ (procs-live v)
-
-chain-of-requires : tie.Need-chain-of-requires
-chain-of-requires c κs = procs-source (vetted (named-at c)) _ (c .process-group .ensures)
-
-chain-of-requires-2 : tie.Need-chain-of-requires-2
-chain-of-requires-2 c κs = procs-target (vetted (named-at (c .before .before)))
-
 vet-move-requires : tie.Need-vet-move-requires
-vet-move-requires c κs = moving (c .before)
+vet-move-requires c κs = procs-moving (vetted (c .before .before))
 
 enum-told-3 : tie.Need-enum-told-3
 enum-told-3 c = search needs
@@ -110,17 +82,17 @@ enum-told-4 c = search needs
 returns-3 : tie.Need-returns-3
 returns-3 c =
     let m = c .before .before in
-    move-refused (vetted (named-at (source-at (both-at m) .before))) _ (m .vet-move .ensures) _ (c .enum-told4 .given .1)
+    move-refused (vetted (named-at m)) _ (m .vet-move .ensures) _ (c .enum-told4 .given .1)
 
 relocate-requires : tie.Need-relocate-requires
-relocate-requires c κs = moving (both-at (c .before .before .before))
+relocate-requires c κs = procs-moving (vetted (named-at (c .before .before .before)))
 
 -- done
 returns-4 : tie.Need-returns-4
 returns-4 c =
     let d = c .before .before in
     let m = d .before .before in
-    moved (vetted (named-at (source-at (both-at m) .before))) _ (m .vet-move .ensures) (d .enum-told3 .given .1) _ (c .relocate .ensures)
+    moved (vetted (named-at m)) _ (m .vet-move .ensures) (d .enum-told3 .given .1) _ (c .relocate .ensures)
 
 pub write-procs-spec : {M : Type 1} → statement M
 write-procs-spec =
@@ -134,9 +106,6 @@ write-procs-spec =
     enum-known-named
     enum-known-named-2
     returns-2
-    process-group-requires
-    chain-of-requires
-    chain-of-requires-2
     vet-move-requires
     enum-told-3
     enum-told-4

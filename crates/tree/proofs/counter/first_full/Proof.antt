@@ -30,7 +30,7 @@ is-full-requires : tie.Need-is-full-requires Inv-loop μ-loop
 is-full-requires c κs =
     let s = c .before .before .before in
     let on = on-chain (s .args .t2) (s .pre .0) _ (c .before .loop-test .taken) in
-    (s .pre .1 .rows _ on, s .pre .1 .room _ on)
+    (s .pre .1 .live _ on, s .pre .1 .room _ on)
 
 add-place : tie.Need-add-place Inv-loop μ-loop
 add-place c = omega (arith, c .before .before .before .loop-test .taken, c .before .before .before .before .before .pre .0 .few)
