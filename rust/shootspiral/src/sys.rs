@@ -1,9 +1,9 @@
-//! The C interface as `include/shootspiral.h` declares it. Nothing compares the two with the
-//! library: they are kept alike by hand.
+//! The C interface as `include/shootspiral.h` declares it. `tests/declarations.rs` compares both
+//! with what `crates/shootspiral` exports.
 //!
 //! What a caller owes, of each function: `tree` points to [`ss_tree_words`] words that a call of
-//! [`ss_fresh`] and then only calls of these functions have written; a pointer is not null, also
-//! where its length is 0; and what is written to overlaps nothing else that the call is lent.
+//! [`ss_fresh`] and then only calls of these functions have written; no pointer is null but one
+//! whose length is 0; and what is written to overlaps nothing else that the call is lent.
 
 unsafe extern "C" {
     /// Writes a fresh tree, whatever `tree` held.
