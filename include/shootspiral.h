@@ -12,8 +12,8 @@
  * What a caller owes, and no call can test:
  * - `tree` points to SS_TREE_WORDS words that ss_fresh has written, and after it only calls of this
  *   file. The words are the library's own. They hold no pointer, so a copy of them is a tree as well.
- * - No pointer is NULL, not even one with a length of 0; each points to as much as its length says,
- *   and `told` to as many words as are declared.
+ * - `tree` and `told` are not NULL. A line, a file name or a reply buffer of length 0 may be NULL;
+ *   else each points to as much as its length says, and `told` to as many words as are declared.
  * - What a call writes (tree, reply, told) overlaps nothing else that it is lent.
  * - No other thread uses a tree while a call changes it. Calls with a const tree may run side by side.
  *

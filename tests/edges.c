@@ -1,0 +1,595 @@
+/*
+ * Bad input through the C interface: every call with numbers out of range, empty and long lines, NUL
+ * and 0xff bytes, buffers too short. Each must answer document 01's number and touch nothing: the
+ * words of the tree, the reply buffer, and the memory around tree, buffer and told stay as they were.
+ *
+ *     0  1024 pages; cpu, memory and pids in its set; process 20 of user 2000
+ *     |- 1   of user 1000, 2 own pages, memory.max 2 pages, pids.max 1; process 10 of user 1000
+ *     |- 2   of user 1000, memory in its set
+ *     |  `- 3
+ *     |- 4   of user 1000
+ *     `- 21, 22 below it, and so on down to 28 at depth 8, with process 30
+ *
+ * A row is a call, the number that 01 gives it and what it tells. The rows of a call stand in the
+ * order of its checks, and many break a later check too. Where a line, a file name or a buffer has
+ * length 0 the row runs again with NULL in its place.
+ */
+#include <inttypes.h>
+#include <stdio.h>
+#include <string.h>
+
+#include "shootspiral.h"
+
+#define NOBODY UINT32_MAX           /* a user who owns nothing */
+#define TWO_32 UINT64_C(4294967296) /* 0 if it were cut to 32 bits */
+#define MOST UINT64_MAX
+#define NONE SS_NO_GROUP
+
+struct bytes {
+	const char *at;
+	size_t length;
+};
+
+#define T(text) { text, sizeof(text) - 1 }
+#define NO_BYTE_OF(text) { text, 0 }
+
+/* Lines of a given length: so many zeros, or spaces, and then a text. */
+#define ZEROS_10 "0000000000"
+#define ZEROS_120 ZEROS_10 ZEROS_10 ZEROS_10 ZEROS_10 ZEROS_10 ZEROS_10 ZEROS_10 ZEROS_10 ZEROS_10 ZEROS_10 ZEROS_10 ZEROS_10
+#define SPACES_10 "          "
+#define SPACES_120 \
+	SPACES_10 SPACES_10 SPACES_10 SPACES_10 SPACES_10 SPACES_10 SPACES_10 SPACES_10 SPACES_10 SPACES_10 SPACES_10 SPACES_10
+
+enum call { MAKE, REMOVE, HAND_OVER, PROCS, CONTROL, SETTING, ADMIT, FORK, EXIT, CHARGE, RELEASE, READ, MEMBERSHIP, WORD };
+
+struct row {
+	enum call call;
+	const char *shown;
+	uint32_t user;
+	uint32_t owner;
+	uint64_t first; /* the numbers, in the order of the arguments */
+	uint64_t second;
+	struct bytes file;
+	struct bytes line;
+	size_t room;
+	uint32_t number; /* from here on what must come of it */
+	struct bytes text;
+	size_t tells; /* how many words */
+	uint64_t told[2];
+};
+
+#define MAKE(u, parent, group, n) \
+	{ .call = MAKE, .shown = "ss_make " #u ", " #parent ", " #group, .user = u, .first = parent, .second = group, .number = n }
+#define REMOVE(u, group, n) \
+	{ .call = REMOVE, .shown = "ss_remove " #u ", " #group, .user = u, .first = group, .number = n }
+#define HAND_OVER(u, group, o, n) \
+	{ .call = HAND_OVER, .shown = "ss_hand_over " #u ", " #group ", " #o, .user = u, .first = group, .owner = o, .number = n }
+#define PROCS(u, group, l, n) \
+	{ .call = PROCS, .shown = "ss_write_procs " #u ", " #group ", " #l, .user = u, .first = group, .line = l, .number = n }
+#define CONTROL(u, group, l, n) \
+	{ .call = CONTROL, .shown = "ss_write_subtree_control " #u ", " #group ", " #l, .user = u, .first = group, .line = l, .number = n }
+#define SETTING(u, group, f, l, n) \
+	{ .call = SETTING, .shown = "ss_write_setting " #u ", " #group ", " #f ", " #l, .user = u, .first = group, .file = f, .line = l, \
+	  .number = n }
+#define ADMIT(process, u, n) \
+	{ .call = ADMIT, .shown = "ss_admit " #process ", " #u, .first = process, .user = u, .number = n }
+#define FORK(parent, process, n, group, consulted) \
+	{ .call = FORK, .shown = "ss_fork " #parent ", " #process, .first = parent, .second = process, .number = n, .tells = 2, \
+	  .told = { group, consulted } }
+#define EXIT(process, n) \
+	{ .call = EXIT, .shown = "ss_exit " #process, .first = process, .number = n }
+#define CHARGE(process, pages, n, group, consulted) \
+	{ .call = CHARGE, .shown = "ss_charge " #process ", " #pages, .first = process, .second = pages, .number = n, .tells = 2, \
+	  .told = { group, consulted } }
+#define RELEASE(group, pages, n) \
+	{ .call = RELEASE, .shown = "ss_release " #group ", " #pages, .first = group, .second = pages, .number = n }
+#define READ(group, f, r, n, t) \
+	{ .call = READ, .shown = "ss_read " #group ", " #f ", " #r, .first = group, .file = f, .room = r, .number = n, .text = t, \
+	  .tells = 1 }
+#define MEMBERSHIP(process, r, n, t) \
+	{ .call = MEMBERSHIP, .shown = "ss_membership " #process ", " #r, .first = process, .room = r, .number = n, .text = t, .tells = 1 }
+#define WORD(l, place, length) \
+	{ .call = WORD, .shown = "ss_first_bad_word " #l, .line = l, .tells = 2, .told = { place, length } }
+
+/* These leave the tree as it was. The few with 0 read, or ask for what already holds. */
+static const struct row same[] = {
+	/* user, parent, group: number */
+	MAKE(0, 64, 5, 22),
+	MAKE(0, 256, 5, 22),
+	MAKE(0, 257, 5, 22),
+	MAKE(0, TWO_32, 5, 22),
+	MAKE(0, MOST, 5, 22),
+	MAKE(0, 0, 64, 22),
+	MAKE(0, 0, 256, 22),
+	MAKE(0, 0, 257, 22),
+	MAKE(0, 0, TWO_32 + 5, 22),
+	MAKE(0, 0, MOST, 22),
+	MAKE(NOBODY, 63, 64, 22),
+	MAKE(0, 63, 5, 2),
+	MAKE(NOBODY, 63, 1, 2),
+	MAKE(0, 0, 0, 17),
+	MAKE(0, 0, 1, 17),
+	MAKE(NOBODY, 0, 1, 17),
+	MAKE(NOBODY, 0, 63, 13),
+	MAKE(1000, 0, 63, 13),
+	MAKE(NOBODY, 28, 63, 13),
+	MAKE(0, 28, 63, 11),
+
+	/* user, group: number */
+	REMOVE(0, 64, 22),
+	REMOVE(0, 256, 22),
+	REMOVE(0, 257, 22),
+	REMOVE(0, TWO_32 + 3, 22),
+	REMOVE(0, MOST, 22),
+	REMOVE(NOBODY, 64, 22),
+	REMOVE(0, 63, 2),
+	REMOVE(NOBODY, 63, 2),
+	REMOVE(NOBODY, 0, 13),
+	REMOVE(NOBODY, 1, 13),
+	REMOVE(1000, 4, 13),
+	REMOVE(0, 0, 16),
+	REMOVE(0, 1, 16),
+	REMOVE(0, 2, 16),
+
+	/* user, group, owner: number */
+	HAND_OVER(0, 0, 1000, 22),
+	HAND_OVER(0, 64, 1000, 22),
+	HAND_OVER(0, 256, 1000, 22),
+	HAND_OVER(0, 257, 1000, 22),
+	HAND_OVER(0, TWO_32 + 1, 2000, 22),
+	HAND_OVER(0, MOST, NOBODY, 22),
+	HAND_OVER(NOBODY, 0, NOBODY, 22),
+	HAND_OVER(0, 63, NOBODY, 2),
+	HAND_OVER(NOBODY, 63, 0, 2),
+	HAND_OVER(NOBODY, 1, NOBODY, 13),
+	HAND_OVER(1000, 1, 0, 13),
+
+	/* user, group, line: number */
+	PROCS(0, 64, T("10"), 22),
+	PROCS(0, 256, T("10"), 22),
+	PROCS(0, 257, T("10"), 22),
+	PROCS(0, TWO_32 + 4, T("10"), 22),
+	PROCS(0, MOST, NO_BYTE_OF("10"), 22),
+	PROCS(NOBODY, 64, T("x"), 22),
+	PROCS(0, 63, T("10"), 2),
+	PROCS(NOBODY, 63, NO_BYTE_OF("10"), 2),
+	PROCS(NOBODY, 4, T("10"), 13),
+	PROCS(NOBODY, 4, NO_BYTE_OF("10"), 13),
+	PROCS(0, 4, NO_BYTE_OF("10"), 22),
+	PROCS(0, 4, T("\n"), 22),
+	PROCS(0, 4, T(" "), 22),
+	PROCS(0, 4, T("10 20"), 22),
+	PROCS(0, 4, T("10\n\n"), 22),
+	PROCS(0, 4, T("-10"), 22),
+	PROCS(0, 4, T("10\0"), 22),
+	PROCS(0, 4, T("\0"), 22),
+	PROCS(0, 4, T("\xff"), 22),
+	PROCS(0, 4, T(ZEROS_120 "000000010"), 22),
+	PROCS(0, 4, T(ZEROS_120 "00000010\n"), 22),
+	PROCS(0, 4, T(SPACES_120 SPACES_120 SPACES_10 SPACES_10 SPACES_10 SPACES_10 SPACES_10 "        10"), 22),
+	PROCS(0, 4, T("0"), 22),
+	PROCS(0, 4, T(ZEROS_120 "00000000"), 22),
+	PROCS(0, 4, T("63"), 3),
+	PROCS(0, 4, T("256"), 3),
+	PROCS(0, 4, T("257"), 3),
+	PROCS(0, 4, T("4294967306"), 3),
+	PROCS(0, 4, T("18446744073709551626"), 3),
+	PROCS(0, 4, T(ZEROS_120 "0000257"), 3),
+	PROCS(0, 4, T("9" ZEROS_120 "0000010"), 3),
+	PROCS(1000, 2, T("11"), 3),
+	PROCS(1000, 4, T("20"), 13),
+	PROCS(1000, 4, T("10"), 13),
+	PROCS(1000, 2, T("10"), 13),
+	PROCS(0, 2, T("10"), 16),
+
+	/* user, group, line: number */
+	CONTROL(0, 64, T("-cpu"), 22),
+	CONTROL(0, 256, T("-cpu"), 22),
+	CONTROL(0, 257, T("-cpu"), 22),
+	CONTROL(0, TWO_32, T("-cpu"), 22),
+	CONTROL(0, MOST, NO_BYTE_OF("-cpu"), 22),
+	CONTROL(NOBODY, 64, T("x"), 22),
+	CONTROL(0, 63, T("-cpu"), 2),
+	CONTROL(NOBODY, 63, NO_BYTE_OF("-cpu"), 2),
+	CONTROL(NOBODY, 0, T("-cpu"), 13),
+	CONTROL(NOBODY, 0, NO_BYTE_OF("-cpu"), 13),
+	CONTROL(NOBODY, 0, T("x"), 13),
+	CONTROL(0, 0, T("cpu"), 22),
+	CONTROL(0, 0, T("-"), 22),
+	CONTROL(0, 0, T("-cpu\n-pids"), 22),
+	CONTROL(0, 0, T("-cpu\n\n"), 22),
+	CONTROL(0, 0, T("-cpu\0"), 22),
+	CONTROL(0, 0, T("\0"), 22),
+	CONTROL(0, 0, T("-cpu \xff"), 22),
+	CONTROL(0, 0, T(SPACES_120 "     -cpu"), 22),
+	CONTROL(0, 0, T(SPACES_120 "    -cpu\n"), 22),
+	CONTROL(0, 0, T(SPACES_120 SPACES_120 SPACES_10 SPACES_10 SPACES_10 SPACES_10 SPACES_10 "      -cpu"), 22),
+	CONTROL(0, 3, T("+cpu x"), 22),
+	CONTROL(0, 3, T("+cpu"), 2),
+	CONTROL(0, 3, T("+memory +pids"), 2),
+	CONTROL(0, 0, T("-memory"), 16),
+	CONTROL(0, 1, T("+memory"), 16),
+	CONTROL(0, 0, NO_BYTE_OF("-cpu"), 0),
+	CONTROL(0, 0, T("\n"), 0),
+	CONTROL(0, 0, T(SPACES_120 "        "), 0),
+	CONTROL(0, 0, T(SPACES_120 "   +cpu\n"), 0),
+
+	/* user, group, file, line: number */
+	SETTING(0, 64, T("cpu.weight"), T("1"), 22),
+	SETTING(0, 256, T("cpu.weight"), T("1"), 22),
+	SETTING(0, 257, T("cpu.weight"), T("1"), 22),
+	SETTING(0, TWO_32 + 4, T("cpu.weight"), T("1"), 22),
+	SETTING(0, MOST, NO_BYTE_OF("cpu.weight"), NO_BYTE_OF("1"), 22),
+	SETTING(0, 63, T("cpu.weight"), T("1"), 2),
+	SETTING(NOBODY, 63, NO_BYTE_OF("cpu.weight"), NO_BYTE_OF("1"), 2),
+	SETTING(0, 4, NO_BYTE_OF("cpu.weight"), T("1"), 2),
+	SETTING(NOBODY, 4, NO_BYTE_OF("cpu.weight"), NO_BYTE_OF("1"), 2),
+	SETTING(0, 4, T("cpu.weigh"), T("1"), 2),
+	SETTING(0, 4, T("cpu.weight\0"), T("1"), 2),
+	SETTING(0, 4, T("cpu.weight\n"), T("1"), 2),
+	SETTING(0, 4, T("\0"), T("1"), 2),
+	SETTING(0, 4, T("\xff"), T("1"), 2),
+	SETTING(0, 4, T("memory.current"), T("1"), 2),
+	SETTING(0, 4, T(ZEROS_120 ZEROS_120 ZEROS_10 ZEROS_10 ZEROS_10 ZEROS_10 ZEROS_10 ZEROS_10), T("1"), 2),
+	SETTING(0, 0, T("cpu.weight"), T("1"), 2),
+	SETTING(0, 3, T("cpu.weight"), T("1"), 2),
+	SETTING(NOBODY, 4, T("cpu.weight"), T("1"), 13),
+	SETTING(1000, 4, T("cpu.weight"), T("x"), 13),
+	SETTING(0, 4, T("memory.max"), NO_BYTE_OF("1"), 22),
+	SETTING(0, 4, T("pids.max"), NO_BYTE_OF("1"), 22),
+	SETTING(0, 4, T("cpu.weight"), NO_BYTE_OF("1"), 22),
+	SETTING(0, 4, T("cpu.max"), NO_BYTE_OF("1000"), 22),
+	SETTING(0, 4, T("cpu.max"), T("\n"), 22),
+	SETTING(0, 4, T("memory.max"), T("1 2"), 22),
+	SETTING(0, 4, T("cpu.max"), T("1000 1000 1000"), 22),
+	SETTING(0, 4, T("cpu.max"), T("1 x"), 22),
+	SETTING(0, 4, T("cpu.weight"), T("max"), 22),
+	SETTING(0, 4, T("cpu.weight"), T("1\0"), 22),
+	SETTING(0, 4, T("pids.max"), T("\0"), 22),
+	SETTING(0, 4, T("memory.max"), T("\xff"), 22),
+	SETTING(0, 4, T("cpu.weight"), T(ZEROS_120 "000000001"), 22),
+	SETTING(0, 4, T("pids.max"), T(ZEROS_120 "00000001\n"), 22),
+	SETTING(0, 4, T("memory.max"), T(ZEROS_120 ZEROS_120 ZEROS_10 ZEROS_10 ZEROS_10 ZEROS_10 ZEROS_10 ZEROS_10), 22),
+	SETTING(0, 4, T("memory.max"), T("4503599627370497"), 34),
+	SETTING(0, 4, T("memory.max"), T("18446744073709551616"), 34),
+	SETTING(0, 4, T("pids.max"), T("4194305"), 34),
+	SETTING(0, 4, T("pids.max"), T("4294967296"), 34),
+	SETTING(0, 4, T("cpu.weight"), T("0"), 34),
+	SETTING(0, 4, T("cpu.weight"), T("10001"), 34),
+	SETTING(0, 4, T("cpu.weight"), T("9" ZEROS_120 "0000001"), 34),
+	SETTING(0, 4, T("cpu.weight"), T(ZEROS_120 "0010001"), 34),
+	SETTING(0, 4, T("cpu.max"), T("999"), 34),
+	SETTING(0, 4, T("cpu.max"), T("1000000001"), 34),
+	SETTING(0, 4, T("cpu.max"), T("1000 999"), 34),
+	SETTING(0, 4, T("cpu.max"), T("1000 1000001"), 34),
+
+	/* process, user: number */
+	ADMIT(0, 0, 22),
+	ADMIT(257, 0, 22),
+	ADMIT(TWO_32 + 1, 0, 22),
+	ADMIT(MOST, NOBODY, 22),
+	ADMIT(10, 0, 17),
+	ADMIT(20, NOBODY, 17),
+
+	/* parent, process: number, group without room, cgroups consulted */
+	FORK(0, 11, 3, NONE, 0),
+	FORK(63, 11, 3, NONE, 0),
+	FORK(256, 11, 3, NONE, 0),
+	FORK(257, 11, 3, NONE, 0),
+	FORK(TWO_32 + 20, 11, 3, NONE, 0),
+	FORK(MOST, MOST, 3, NONE, 0),
+	FORK(20, 0, 22, NONE, 0),
+	FORK(20, 257, 22, NONE, 0),
+	FORK(20, TWO_32 + 11, 22, NONE, 0),
+	FORK(10, MOST, 22, NONE, 0),
+	FORK(20, 20, 17, NONE, 0),
+	FORK(10, 20, 17, NONE, 0),
+	FORK(10, 11, 11, 1, 1),
+
+	/* process: number */
+	EXIT(0, 3),
+	EXIT(63, 3),
+	EXIT(256, 3),
+	EXIT(257, 3),
+	EXIT(TWO_32 + 10, 3),
+	EXIT(MOST, 3),
+
+	/* process, pages: number, group without room, cgroups consulted */
+	CHARGE(0, 1, 3, NONE, 0),
+	CHARGE(63, 1, 3, NONE, 0),
+	CHARGE(256, 1, 3, NONE, 0),
+	CHARGE(257, 0, 3, NONE, 0),
+	CHARGE(TWO_32 + 20, 1, 3, NONE, 0),
+	CHARGE(MOST, MOST, 3, NONE, 0),
+	CHARGE(20, 0, 22, NONE, 0),
+	CHARGE(20, 1048577, 22, NONE, 0),
+	CHARGE(20, TWO_32 + 1, 22, NONE, 0),
+	CHARGE(10, MOST, 22, NONE, 0),
+	CHARGE(10, 1, 12, 1, 1),
+	CHARGE(10, 1048576, 12, 1, 1),
+	CHARGE(20, 1023, 12, 0, 1),
+	CHARGE(30, 1023, 12, 0, 9),
+
+	/* group, pages: number */
+	RELEASE(64, 1, 22),
+	RELEASE(256, 1, 22),
+	RELEASE(257, 1, 22),
+	RELEASE(TWO_32 + 1, 1, 22),
+	RELEASE(MOST, MOST, 22),
+	RELEASE(1, 0, 22),
+	RELEASE(1, 1048577, 22),
+	RELEASE(1, TWO_32 + 1, 22),
+	RELEASE(63, MOST, 22),
+	RELEASE(63, 1, 2),
+	RELEASE(0, 1, 34),
+	RELEASE(1, 3, 34),
+	RELEASE(1, 1048576, 34),
+
+	/* group, file, room: number, text */
+	READ(64, T("cgroup.procs"), 916, 22, T("")),
+	READ(256, T("cgroup.procs"), 916, 22, T("")),
+	READ(257, T("cgroup.procs"), 916, 22, T("")),
+	READ(TWO_32, T("cgroup.procs"), 916, 22, T("")),
+	READ(MOST, NO_BYTE_OF("cgroup.procs"), 0, 22, T("")),
+	READ(63, T("cgroup.procs"), 916, 2, T("")),
+	READ(63, NO_BYTE_OF("cgroup.procs"), 0, 2, T("")),
+	READ(0, NO_BYTE_OF("cgroup.procs"), 916, 2, T("")),
+	READ(0, NO_BYTE_OF("cgroup.procs"), 0, 2, T("")),
+	READ(0, T("cgroup.proc"), 916, 2, T("")),
+	READ(0, T("cgroup.procs\0"), 916, 2, T("")),
+	READ(0, T("cgroup.procs\n"), 916, 2, T("")),
+	READ(0, T("\0"), 916, 2, T("")),
+	READ(0, T("\xff"), 0, 2, T("")),
+	READ(0, T(ZEROS_120 ZEROS_120 ZEROS_10 ZEROS_10 ZEROS_10 ZEROS_10 ZEROS_10 ZEROS_10), 0, 2, T("")),
+	READ(0, T("cgroup.events"), 0, 2, T("")),
+	READ(0, T("memory.max"), 916, 2, T("")),
+	READ(3, T("cpu.max"), 916, 2, T("")),
+	READ(0, T("cgroup.procs"), 0, 28, T("")),
+	READ(0, T("cgroup.procs"), 2, 28, T("")),
+	READ(0, T("cgroup.controllers"), 15, 28, T("")),
+	READ(4, T("cpu.max"), 0, 28, T("")),
+	READ(4, T("cpu.max"), 10, 28, T("")),
+	READ(0, T("cgroup.controllers"), 16, 0, T("cpu memory pids\n")),
+	READ(0, T("cgroup.procs"), 916, 0, T("20\n")),
+	READ(1, T("cgroup.subtree_control"), 0, 0, T("")),
+	READ(1, T("cgroup.subtree_control"), 916, 0, T("")),
+
+	/* process, room: number, text */
+	MEMBERSHIP(0, 916, 3, T("")),
+	MEMBERSHIP(63, 916, 3, T("")),
+	MEMBERSHIP(256, 916, 3, T("")),
+	MEMBERSHIP(257, 0, 3, T("")),
+	MEMBERSHIP(TWO_32 + 20, 916, 3, T("")),
+	MEMBERSHIP(MOST, 0, 3, T("")),
+	MEMBERSHIP(20, 0, 28, T("")),
+	MEMBERSHIP(20, 4, 28, T("")),
+	MEMBERSHIP(30, 0, 28, T("")),
+	MEMBERSHIP(30, 27, 28, T("")),
+	MEMBERSHIP(20, 5, 0, T("0::/\n")),
+	MEMBERSHIP(30, 28, 0, T("0::/21/22/23/24/25/26/27/28\n")),
+
+	/* line: place, length */
+	WORD(NO_BYTE_OF("x"), 0, 0),
+	WORD(T("\n"), 0, 0),
+	WORD(T("+cpu \n"), 5, 0),
+	WORD(T("+cpu -"), 5, 1),
+	WORD(T("+cpu\0"), 0, 5),
+	WORD(T("+cpu \0"), 5, 1),
+	WORD(T("\xff\n"), 0, 1),
+	WORD(T(SPACES_120 "      +"), 126, 1),
+	WORD(T(SPACES_120 "   +cpu\n"), 127, 0),
+	WORD(T(SPACES_120 "     +cpu"), 129, 0),
+	WORD(T(SPACES_120 SPACES_120 SPACES_10 SPACES_10 SPACES_10 SPACES_10 SPACES_10 "      +dsk"), 296, 4),
+};
+
+/* These are accepted and must change the tree. */
+static const struct row changing[] = {
+	MAKE(0, 0, 63, 0),
+	REMOVE(0, 3, 0),
+	HAND_OVER(0, 1, NOBODY, 0),
+	PROCS(0, 4, T("10\n"), 0),
+	PROCS(0, 4, T(ZEROS_120 "0000010"), 0),
+	PROCS(0, 4, T(ZEROS_120 "0000010\n"), 0),
+	CONTROL(0, 0, T(SPACES_120 "    -cpu"), 0),
+	SETTING(0, 4, T("cpu.weight"), T(ZEROS_120 "0000001\n"), 0),
+	SETTING(0, 4, T("memory.max"), T("4503599627370496"), 0),
+	ADMIT(256, NOBODY, 0),
+	ADMIT(1, 0, 0),
+	FORK(30, 256, 0, NONE, 9),
+	EXIT(10, 0),
+	CHARGE(20, 1022, 0, NONE, 1),
+	RELEASE(1, 2, 0),
+};
+
+/* What calls are lent, and around it what they are not. */
+struct lent {
+	uint64_t before_tree[8];
+	uint64_t tree[SS_TREE_WORDS];
+	uint64_t before_told[8];
+	uint64_t told[2];
+	uint8_t before_reply[64];
+	uint8_t reply[SS_LONGEST_REPLY];
+	uint8_t after_reply[60];
+};
+
+static struct lent scene, lent, expected;
+static int calls, failures;
+
+static void make_scene(void)
+{
+	const uint8_t *all = (const uint8_t *)"+cpu +memory +pids";
+	uint64_t *tree = scene.tree;
+
+	memset(&scene, 0xa5, sizeof scene);
+	ss_fresh(tree, 1024);
+	ss_write_subtree_control(tree, 0, 0, all, strlen((const char *)all));
+	ss_make(tree, 0, 0, 1);
+	ss_make(tree, 0, 0, 2);
+	ss_make(tree, 0, 2, 3);
+	ss_make(tree, 0, 0, 4);
+	ss_make(tree, 0, 0, 21);
+	for (uint64_t group = 22; group <= 28; group++)
+		ss_make(tree, 0, group - 1, group);
+	ss_hand_over(tree, 0, 1, 1000);
+	ss_hand_over(tree, 0, 2, 1000);
+	ss_hand_over(tree, 0, 4, 1000);
+	ss_admit(tree, 10, 1000);
+	ss_admit(tree, 20, 2000);
+	ss_admit(tree, 30, 1000);
+	ss_write_subtree_control(tree, 0, 2, (const uint8_t *)"+memory", 7);
+	ss_write_procs(tree, 0, 1, (const uint8_t *)"10", 2);
+	ss_write_procs(tree, 0, 28, (const uint8_t *)"30", 2);
+	ss_write_setting(tree, 0, 1, (const uint8_t *)"memory.max", 10, (const uint8_t *)"8192", 4);
+	ss_write_setting(tree, 0, 1, (const uint8_t *)"pids.max", 8, (const uint8_t *)"1", 1);
+	ss_charge(tree, 10, 2, scene.told);
+	memset(scene.told, 0xa5, sizeof scene.told);
+}
+
+static void differs(const char *shown, int is_null, const char *what)
+{
+	printf("%s%s: %s\n", shown, is_null ? " (NULL)" : "", what);
+	failures++;
+}
+
+static int has_reply(const struct row *row)
+{
+	return row->call == READ || row->call == MEMBERSHIP;
+}
+
+static int has_empty(const struct row *row)
+{
+	return (row->line.at && row->line.length == 0) || (row->file.at && row->file.length == 0) || (has_reply(row) && row->room == 0);
+}
+
+static uint32_t answer(const struct row *row, int is_null)
+{
+	const uint8_t *file = is_null && row->file.length == 0 ? NULL : (const uint8_t *)row->file.at;
+	const uint8_t *line = is_null && row->line.length == 0 ? NULL : (const uint8_t *)row->line.at;
+	uint8_t *reply = is_null && row->room == 0 ? NULL : lent.reply;
+
+	switch (row->call) {
+	case MAKE:
+		return ss_make(lent.tree, row->user, row->first, row->second);
+	case REMOVE:
+		return ss_remove(lent.tree, row->user, row->first);
+	case HAND_OVER:
+		return ss_hand_over(lent.tree, row->user, row->first, row->owner);
+	case PROCS:
+		return ss_write_procs(lent.tree, row->user, row->first, line, row->line.length);
+	case CONTROL:
+		return ss_write_subtree_control(lent.tree, row->user, row->first, line, row->line.length);
+	case SETTING:
+		return ss_write_setting(lent.tree, row->user, row->first, file, row->file.length, line, row->line.length);
+	case ADMIT:
+		return ss_admit(lent.tree, row->first, row->user);
+	case FORK:
+		return ss_fork(lent.tree, row->first, row->second, lent.told);
+	case EXIT:
+		return ss_exit(lent.tree, row->first);
+	case CHARGE:
+		return ss_charge(lent.tree, row->first, row->second, lent.told);
+	case RELEASE:
+		return ss_release(lent.tree, row->first, row->second);
+	case READ:
+		return ss_read(lent.tree, row->first, file, row->file.length, reply, row->room, lent.told);
+	case MEMBERSHIP:
+		return ss_membership(lent.tree, row->first, reply, row->room, lent.told);
+	case WORD:
+		ss_first_bad_word(line, row->line.length, lent.told);
+		return 0;
+	}
+	return UINT32_MAX;
+}
+
+static void check(const struct row *row, int changes, int is_null)
+{
+	uint32_t number;
+
+	memcpy(&lent, &scene, sizeof scene);
+	memcpy(&expected, &scene, sizeof scene);
+	memcpy(expected.told, row->told, row->tells * sizeof row->told[0]);
+	if (has_reply(row)) {
+		expected.told[0] = row->text.length;
+		memcpy(expected.reply, row->text.at, row->text.length);
+	}
+
+	number = answer(row, is_null);
+	calls++;
+	if (number != row->number) {
+		differs(row->shown, is_null, "another number");
+		printf("\tanswered %" PRIu32 ", not %" PRIu32 "\n", number, row->number);
+	}
+	if (changes) {
+		if (memcmp(lent.tree, scene.tree, sizeof lent.tree) == 0)
+			differs(row->shown, is_null, "the tree is the same");
+		memcpy(expected.tree, lent.tree, sizeof lent.tree);
+	}
+	if (memcmp(lent.told, expected.told, sizeof lent.told) != 0) {
+		differs(row->shown, is_null, "told differs");
+		printf("\ttold %" PRIu64 " and %" PRIu64 ", not %" PRIu64 " and %" PRIu64 "\n", lent.told[0], lent.told[1],
+		       expected.told[0], expected.told[1]);
+	}
+	if (memcmp(lent.tree, expected.tree, sizeof lent.tree) != 0)
+		differs(row->shown, is_null, "the tree differs");
+	if (memcmp(lent.reply, expected.reply, sizeof lent.reply) != 0)
+		differs(row->shown, is_null, "the reply buffer differs");
+	if (memcmp(lent.before_tree, expected.before_tree, sizeof lent.before_tree) != 0 ||
+	    memcmp(lent.before_told, expected.before_told, sizeof lent.before_told) != 0 ||
+	    memcmp(lent.before_reply, expected.before_reply, sizeof lent.before_reply) != 0 ||
+	    memcmp(lent.after_reply, expected.after_reply, sizeof lent.after_reply) != 0)
+		differs(row->shown, is_null, "memory that it was not lent differs");
+}
+
+static void check_all(const struct row *rows, size_t count, int changes)
+{
+	for (size_t i = 0; i < count; i++) {
+		check(&rows[i], changes, 0);
+		if (has_empty(&rows[i]))
+			check(&rows[i], changes, 1);
+	}
+}
+
+/* A fresh tree is the same whatever was there before, and a larger machine is one of 2^40 pages. */
+static void check_fresh(void)
+{
+	static const struct {
+		const char *shown;
+		uint64_t pages, counts_as;
+	} rows[] = {
+		{ "ss_fresh 0", 0, 0 },
+		{ "ss_fresh 2^32", TWO_32, TWO_32 },
+		{ "ss_fresh 2^40", SS_MAX_MACHINE_PAGES, SS_MAX_MACHINE_PAGES },
+		{ "ss_fresh 2^40 + 1", SS_MAX_MACHINE_PAGES + 1, SS_MAX_MACHINE_PAGES },
+		{ "ss_fresh 2^64 - 1", MOST, SS_MAX_MACHINE_PAGES },
+	};
+
+	for (size_t i = 0; i < sizeof rows / sizeof rows[0]; i++) {
+		memcpy(&lent, &scene, sizeof scene);
+		memcpy(&expected, &scene, sizeof scene);
+		memset(expected.tree, 0xff, sizeof expected.tree);
+		ss_fresh(lent.tree, rows[i].pages);
+		ss_fresh(expected.tree, rows[i].counts_as);
+		calls++;
+		if (memcmp(lent.tree, scene.tree, sizeof lent.tree) == 0)
+			differs(rows[i].shown, 0, "the tree is the same");
+		if (memcmp(&lent, &expected, sizeof lent) != 0)
+			differs(rows[i].shown, 0, "the tree differs, or memory that it was not lent");
+	}
+	calls++;
+	if (ss_tree_words() != SS_TREE_WORDS)
+		differs("ss_tree_words", 0, "not SS_TREE_WORDS");
+}
+
+int main(void)
+{
+	make_scene();
+	check_all(same, sizeof same / sizeof same[0], 0);
+	check_all(changing, sizeof changing / sizeof changing[0], 1);
+	check_fresh();
+	if (failures > 0) {
+		printf("%d differences in %d calls\n", failures, calls);
+		return 1;
+	}
+	printf("%d calls, each with its number and nothing touched\n", calls);
+	return 0;
+}
