@@ -1,30 +1,33 @@
 -- What an accepted remove finds, that the pages it passes on fit a word, and that its stores give the definitions' tree:
 -- the pages stay inside every group above, so that no other group's amount changes. Assumes nothing.
-use Prim.Native.Nat.{ℕ, _+_, _≤_, _<_}
+use Prim.Native.Nat.{ℕ, zero, suc, _+_, _≤_, _<_}
 use native.Mathlib.Omega.{arith}
-use mathlib.Core.Bool.{true}
+use mathlib.Core.Bool.{Bool, true, false, not}
 use mathlib.Core.List.{List}
 use mathlib.Core.Logic.{_≢_}
 use mathlib.Core.Path.{_≡_, refl, ap, sym, _∙_}
-use borrow.Author.Tests.{eqb-false}
-use Rattle.model.specs.Functions.{upd}
-use Rattle.model.specs.Sizes.{groups, largestMachine}
+use lib.Dec.{eqb}
+use borrow.Author.Tests.{eqb-false, eq-eqb, ne-eqb}
+use Rattle.model.specs.Functions.{upd, weigh, sum, any}
+use Rattle.model.specs.Sizes.{groups, processes, largestMachine}
 use Rattle.model.specs.Checks.{Pass}
-use Rattle.model.specs.Tree.{Tree, Group, at, noCore, noGroup, atGroup, cores, lives, parents, depths, places}
-use Rattle.model.specs.Hierarchy.{amount, factsOf}
+use Rattle.model.specs.Tree.{Tree, Group, Place, nowhere, at, groupOf, noCore, noGroup, atGroup, cores, lives, parents, depths, places}
+use Rattle.model.specs.Hierarchy.{inside, held, headcount, population, amount, factsOf}
+use Rattle.model.specs.Rules.{standsIn, hasChild, hasProcess}
 use Rattle.model.specs.Calls.{remove, checks, verdict}
 use Rattle.model.specs.Effects.{charged, removed, effect}
 use Rattle.model.specs.WellFormed.{WellFormed}
 use Rattle.model.specs.declared.Resource.{Resource}
+use Rattle.model.specs.declared.Resource.the-variants.{Processes}
 use Rattle.model.specs.declared.Answer.the-variants.{Done}
-use Rattle.model.proofs.FunctionLaws.{whether, clash, upd-same, upd-other, upd-map, upd-keeps}
-use Rattle.model.proofs.ChainLaws.{root-inside}
+use Rattle.model.proofs.FunctionLaws.{split, whether, clash, weigh-yes, weigh-no, weigh-zero, upd-same, upd-other, upd-map, upd-keeps}
+use Rattle.model.proofs.ChainLaws.{root-inside, inside-self, leaf-alone}
 use Rattle.model.proofs.RuleLaws.{NoChild}
 use Rattle.model.proofs.AmountLaws.{own-within-usage, amount-after-remove}
 use Rattle.model.proofs.Steps.{passed, no-child, no-process}
-use Rattle.tree.specs.Layout.{view}
+use Rattle.tree.specs.Layout.{view, sumIn}
 use Rattle.tree.specs.Changes.{Wrote, Cleared, ownSet}
-use Rattle.tree.specs.Kept.{Kept}
+use Rattle.tree.specs.Kept.{Kept, KeptAt}
 use Rattle.tree.specs.Calling.{Applied}
 use Rattle.groups.proofs.ClearedLaws.{cleared-after-wrote, applied-cleared}
 
@@ -37,6 +40,39 @@ parent-low xs k g l =
 own-small : (t : Tree) → WellFormed t → (g : ℕ) → lives t g ≡ true → t .group g .core .own ≤ largestMachine
 own-small t w g l =
     omega (arith, own-within-usage (cores t) 0 g (w .sound .range g l) l (root-inside (w .sound) g l), w .sized .fits, w .sized .size)
+
+-- Counted one by one, some number below n passes a test just where the count is not 0.
+any-counted : (n : ℕ) (f : ℕ → Bool) (h : ℕ → ℕ) → ((j : ℕ) → h j ≡ weigh (f j) 1) → any n f ≡ not (eqb (sum n h) 0)
+unfolding any sum
+any-counted zero f h e = refl
+any-counted (suc n) f h e =
+    split (f n)
+    (λ y. rw (y, any, ne-eqb (h n + sum n h) 0 (λ z. omega (arith, e n, weigh-yes (f n) 1 y))))
+    (λ o. let z : h n + sum n h ≡ sum n h = omega (arith, e n, weigh-no (f n) 1 o) in rw (o, any, z) (any-counted n f h e))
+
+-- who is inside a group without live children stands in it
+stands-alone : (t : Tree) → WellFormed t → (g : ℕ) → lives t g ≡ true → NoChild (lives t) (parents t) g → (l : Place)
+    → ((h : ℕ) → l ≡ at h → lives t h ≡ true) → weigh (inside (parents t) g (groupOf l)) (headcount l) ≡ weigh (standsIn l g) 1
+unfolding weigh
+stands-alone t w g live nc nowhere at-live = weigh-zero (inside (parents t) g 0)
+stands-alone t w g live nc (at h) at-live =
+    let l : lives t h ≡ true = at-live h refl in
+    whether h g
+    (λ e. rw (eq-eqb h g e, e, inside-self (w .sound) g live))
+    (λ ne. rw (ne-eqb h g ne)
+    (split (inside (parents t) g h)
+    (λ y. absurd (ne (sym (leaf-alone (w .sound) g nc h l y))))
+    (λ o. rw o)))
+
+pub populated-leaf : (xs : List ℕ) (g : ℕ) → KeptAt xs g → hasChild (view xs) g ≡ false
+    → not (eqb (sumIn xs Processes g) 0) ≡ hasProcess (view xs) g
+unfolding hasProcess population held
+populated-leaf xs g k childless =
+    let t : Tree = view xs in
+    let w : WellFormed t = k .kept .formed in
+    rw (k .kept .sums Processes g (k .live))
+    (sym (any-counted processes (λ p. standsIn (places t p) g) _
+    (λ p. stands-alone t w g (k .live) (no-child t w g childless) (places t p) (λ h e. w .placed .group p h e))))
 
 -- what the checks say where all pass
 record Removable (t : Tree) (g : ℕ) : Type 0 where

@@ -1,12 +1,15 @@
-// Document 01, "Remove". Checks, of which one passes over all groups and one over all processes, then two stores.
+// Document 01, "Remove". Checks, of which one passes over all groups, then two stores.
+ghost use mathlib.Core.Bool.{false};
 ghost use mathlib.Core.Path.{_≡_};
+ghost use Rattle.model.specs.Rules.{hasChild, hasProcess};
 ghost use Rattle.model.specs.Calls.{remove, verdict};
 ghost use Rattle.tree.specs.Layout.{view};
-ghost use Rattle.tree.specs.Kept.{Kept};
+ghost use Rattle.tree.specs.Kept.{Kept, KeptAt};
 ghost use Rattle.tree.specs.Calling.{Calling};
 use model::Answer;
 use model::Errno;
 use model::GroupId;
+use model::Resource;
 use tree::layout::GROUPS;
 use tree::layout::Tree;
 use tree::layout::clear_group;
@@ -14,9 +17,17 @@ use tree::layout::is_live;
 use tree::layout::own;
 use tree::layout::parent;
 use tree::layout::set_own;
+use tree::layout::sum;
 use tree::rule::has_child;
-use tree::rule::has_process;
 use tree::rule::may_write;
+
+// Whether a live process stands in a group that has no live child: whatever is inside stands in it, and is counted there.
+fn is_populated(t: &Tree, g: GroupId) -> bool
+    requires { ⌜ KeptAt (now t) (g .0) × (hasChild (view (now t)) (g .0) ≡ false) ⌝ }
+    ensures { λ r. ⌜ r ≡ hasProcess (view (now (t .entry))) (g .0) ⌝ }
+{
+    sum(t, g, Resource::Processes) != 0
+}
 
 // The checks, in the paper's order. The root's parent is the root itself, whose owner is user 0.
 fn vet_remove(t: &Tree, user: u32, g: GroupId) -> Answer
@@ -38,7 +49,7 @@ fn vet_remove(t: &Tree, user: u32, g: GroupId) -> Answer
     if has_child(t, g) {
         return Answer::Refused(Errno::Ebusy);
     }
-    if has_process(t, g) {
+    if is_populated(t, g) {
         return Answer::Refused(Errno::Ebusy);
     }
     Answer::Done

@@ -48,8 +48,15 @@ returns-5 : tie.Need-returns-5
 unfolding verdict checks
 returns-5 c = search vets depth 12 fits 4000
 
-has-process-requires : tie.Need-has-process-requires
-has-process-requires c κs = search needs
+is-populated-requires : tie.Need-is-populated-requires
+is-populated-requires c κs =
+    let h = c .before in
+    let w = h .before .before .before .before in
+    let p = w .before in
+    let l = p .before .before in (
+      record { kept = l .before .before .before .pre; live = tested _ _ _ (l .is-live .ensures) (not-false _ (p .before .if2 .left)) },
+      tested _ _ _ (h .has-child .ensures) (c .if5 .left),
+    )
 
 -- 16: a live process
 returns-6 : tie.Need-returns-6
@@ -74,6 +81,6 @@ vet-remove-spec =
     returns-4
     has-child-requires
     returns-5
-    has-process-requires
+    is-populated-requires
     returns-6
     returns-7)
