@@ -2,65 +2,18 @@
 use Prim.Native.Nat.{ℕ}
 use mathlib.Core.List.{List, [], _∷_, _++_, nil≢cons, head-eq-of-cons-eq, tail-eq-of-cons-eq}
 use mathlib.Core.Path.{_≡_, refl, ap, ap₂, sym, _∙_, subst, subst₂}
-use Rattle.model.specs.Checks.{answerNumber}
 use Rattle.model.specs.Tree.{Tree, groupOf}
-use Rattle.model.specs.Hierarchy.{factsOf}
-use Rattle.model.specs.Calls.{Call, charge, fork, read, membership, verdict}
-use Rattle.model.specs.Effects.{effect, step, run}
+use Rattle.model.specs.Calls.{Call}
+use Rattle.model.specs.Effects.{step, run}
 use Rattle.model.specs.Effects as F
-use Rattle.model.specs.Replies.{chargeAnswer, forkAnswer, roomNumber, readAnswer, readNumber, reply, replyBy}
+use Rattle.model.specs.Replies.{reply}
 use Rattle.model.specs.Book.{Book, Entry, freshBook, fed, bookStep}
 use Rattle.model.specs.Demands.{log, treeAfter, bookAfter, Demand3, Alike, Bounded, NoneOver}
-use Rattle.model.specs.declared.Resource.the-variants.{Pages, Processes}
-use Rattle.model.specs.declared.Answer.{Answer}
-use Rattle.model.specs.declared.ReadAnswer.{ReadAnswer}
-use Rattle.model.proofs.Steps.{step-accepted, step-refused, by-verdict}
-use Rattle.model.proofs.Books.{read-number, reply-number, tree-after-more}
+use Rattle.model.proofs.Books.{tree-after-more}
 use Rattle.model.proofs.Demands.{demands}
 use Rattle.tree.specs.Layout.{view}
 use Rattle.tree.specs.Kept.{Kept, Fresh}
-use Rattle.tree.specs.Calling.{Calling}
-use Rattle.demands.specs.Runs.{Promised, plain, charged, forked, readFile, readMembership, Runs, fresh, next, bookOf, Kept3}
-
--- A promise is a step of the definitions.
-record Meant (xs : List ℕ) (c : Call) (n : ℕ) (ys : List ℕ) : Type 0 where
-  number : n ≡ reply (view xs) c .number
-  tree : view ys ≡ step (view xs) c
-  kept : Kept xs → Kept ys
-
--- a read changes nothing, accepted or not
-read-step : (t : Tree) (g : ℕ) (file buffer : List ℕ) → t ≡ step t (read g file buffer)
-unfolding effect
-read-step t g file buffer =
-    by-verdict t (read g file buffer)
-    (λ e. sym (step-accepted t (read g file buffer) e))
-    (λ x e. sym (step-refused t (read g file buffer) x e))
-
-membership-step : (t : Tree) (p : ℕ) (buffer : List ℕ) → t ≡ step t (membership p buffer)
-unfolding effect
-membership-step t p buffer =
-    by-verdict t (membership p buffer)
-    (λ e. sym (step-accepted t (membership p buffer) e))
-    (λ x e. sym (step-refused t (membership p buffer) x e))
-
-meant : {xs ys : List ℕ} {c : Call} {n : ℕ} → Promised xs c n ys → Meant xs c n ys
-unfolding reply replyBy
-meant {xs} {c = c} (plain k) =
-    record { number = ap answerNumber (k .answer) ∙ sym (reply-number (view xs) c); tree = k .tree; kept = λ _. k .kept }
-meant (charged k) = record { number = ap (roomNumber Pages) (k .answer); tree = k .tree; kept = λ _. k .kept }
-meant (forked k) = record { number = ap (roomNumber Processes) (k .answer); tree = k .tree; kept = λ _. k .kept }
-meant {xs} (readFile {old = buffer} {text = text} {g = g} {file = file} k) =
-    record {
-      number = ap readNumber (k .answer) ∙ read-number (verdict (view xs) (read g file buffer)) text ∙ sym (reply-number (view xs) (read g file buffer));
-      tree = read-step (view xs) g file buffer;
-      kept = λ h. h;
-    }
-meant {xs} (readMembership {old = buffer} {text = text} {p = p} k) =
-    record {
-      number = ap readNumber (k .answer) ∙ read-number (verdict (view xs) (membership p buffer)) text ∙ sym (reply-number (view xs) (membership p buffer));
-      tree = membership-step (view xs) p buffer;
-      kept = λ h. h;
-    }
+use Rattle.demands.specs.Runs.{Runs, fresh, next, bookOf, Kept3}
 
 -- A run of the code is a run of the definitions.
 record Followed (m : ℕ) (es : List Entry) (xs : List ℕ) : Type 0 where
@@ -80,15 +33,14 @@ unfolding log run
 followed (fresh f) = record { calls = []; entries = refl; tree = f .tree; kept = f .kept }
 followed {m} (next {c = c} {n = n} r p) =
     let f = followed r in
-    let w = meant p in
-    let number : n ≡ reply (treeAfter m (f .calls)) c .number = w .number ∙ ap (λ t. reply t c .number) (f .tree) in
+    let number : n ≡ reply (treeAfter m (f .calls)) c .number = p .answer ∙ ap (λ t. reply t c .number) (f .tree) in
     record {
       calls = f .calls ++ (c ∷ []);
       entries =
           ap₂ (λ (es : List Entry) (k : ℕ). es ++ (record { call = c; number = k } ∷ [])) (f .entries) number
           ∙ log-more (F.fresh m) (f .calls) c;
-      tree = w .tree ∙ ap (λ t. step t c) (f .tree) ∙ sym (tree-after-more m (f .calls) c);
-      kept = w .kept (f .kept);
+      tree = p .tree ∙ ap (λ t. step t c) (f .tree) ∙ sym (tree-after-more m (f .calls) c);
+      kept = p .kept;
     }
 
 -- An entry of the log is a call of the list.

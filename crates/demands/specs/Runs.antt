@@ -3,39 +3,20 @@
 use Prim.Native.Nat.{ℕ}
 use mathlib.Core.List.{List, [], _∷_, _++_}
 use mathlib.Core.Path.{_≡_}
-use Rattle.model.specs.Checks.{answerNumber}
 use Rattle.model.specs.Tree.{groupOf}
-use Rattle.model.specs.Hierarchy.{factsOf}
-use Rattle.model.specs.Calls.{Call, charge, fork, read, membership, verdict}
-use Rattle.model.specs.Replies.{chargeAnswer, forkAnswer, roomNumber, readNumber}
+use Rattle.model.specs.Calls.{Call}
 use Rattle.model.specs.Book.{Book, Entry, freshBook, fed}
 use Rattle.model.specs.Demands.{Alike, Bounded, Adds, NoneOver}
 use Rattle.model.specs.declared.Resource.{Resource}
-use Rattle.model.specs.declared.Resource.the-variants.{Pages, Processes}
-use Rattle.model.specs.declared.Answer.{Answer}
-use Rattle.model.specs.declared.RoomAnswer.{RoomAnswer}
-use Rattle.model.specs.declared.ReadAnswer.{ReadAnswer}
 use Rattle.tree.specs.Layout.{view}
 use Rattle.tree.specs.Kept.{Kept, Fresh}
-use Rattle.tree.specs.Calling.{Calling}
-use Rattle.files.specs.Reading.{Reading}
+use Rattle.tree.specs.Calling.{Answered}
 
--- What the contract of a call says: the words before, the call, the number that it answered, the words after.
-pub data Promised : List ℕ → Call → ℕ → List ℕ → Type 0 where
-  plain : {xs ys : List ℕ} {c : Call} {r : Answer} → Calling xs ys c (verdict (view xs) c) r → Promised xs c (answerNumber r) ys
-  charged : {xs ys : List ℕ} {p n : ℕ} {r : RoomAnswer} → Calling xs ys (charge p n) (chargeAnswer (factsOf (view xs)) p n) r
-      → Promised xs (charge p n) (roomNumber Pages r) ys
-  forked : {xs ys : List ℕ} {p new : ℕ} {r : RoomAnswer} → Calling xs ys (fork p new) (forkAnswer (factsOf (view xs)) p new) r
-      → Promised xs (fork p new) (roomNumber Processes r) ys
-  readFile : {xs old text new : List ℕ} {g : ℕ} {file : List ℕ} {r : ReadAnswer} → Reading xs (read g file old) text old r new
-      → Promised xs (read g file old) (readNumber r) xs
-  readMembership : {xs old text new : List ℕ} {p : ℕ} {r : ReadAnswer} → Reading xs (membership p old) text old r new
-      → Promised xs (membership p old) (readNumber r) xs
-
--- A list of calls with the numbers answered, from a fresh tree of size m, each on the words that the one before handed back.
+-- A list of calls with the numbers answered, from a fresh tree of size m, each on the words that the one before handed back. What a
+-- call promises is `Answered`, as every function of the C interface that has a tree ensures it.
 pub data Runs (m : ℕ) : List Entry → List ℕ → Type 0 where
   fresh : {xs : List ℕ} → Fresh m xs → Runs m [] xs
-  next : {es : List Entry} {xs ys : List ℕ} {c : Call} {n : ℕ} → Runs m es xs → Promised xs c n ys
+  next : {es : List Entry} {xs ys : List ℕ} {c : Call} {n : ℕ} → Runs m es xs → Answered xs ys c n
       → Runs m (es ++ (record { call = c; number = n } ∷ [])) ys
 
 -- the book that is fed the machine size and the calls with their numbers

@@ -36,7 +36,7 @@ use Rattle.model.proofs.Preservation.{cores-after-remove}
 use Rattle.model.proofs.ControlPreservation.{child-live, child-parent, child-not-root, reset-child, reset-other}
 
 -- The number of a reply is that of the verdict.
-pub read-number : (a : Answer) (text : List ℕ) → readNumber (readAnswer a text) ≡ answerNumber a
+read-number : (a : Answer) (text : List ℕ) → readNumber (readAnswer a text) ≡ answerNumber a
 read-number Done text = refl
 read-number (Refused e) text = refl
 

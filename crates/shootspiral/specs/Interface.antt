@@ -19,8 +19,7 @@ roomWords r = groupWord (r .group) ∷ r .consulted ∷ []
 abbrev pub partWords : Part → List ℕ
 partWords p = p .start ∷ p .size ∷ []
 
--- a call that delivers a text, as C sees it: the number, the length that is told, and every byte of the reply buffer
-pub record Told (r : Reply) (n : ℕ) (words bytes : List ℕ) : Type 0 where
-  pub number : n ≡ r .number
+-- what a call that delivers a text tells beside its number: the length, and every byte of the reply buffer
+pub record Told (r : Reply) (words bytes : List ℕ) : Type 0 where
   pub told : words ≡ r .told ∷ []
   pub buffer : bytes ≡ r .buffer

@@ -2,10 +2,8 @@
 ghost use mathlib.Core.Path.{_≡_};
 ghost use Rattle.model.specs.Control.{firstBadWord};
 ghost use Rattle.model.specs.Calls.{writeProcs, writeControl, writeSetting};
-ghost use Rattle.model.specs.Replies.{reply};
-ghost use Rattle.tree.specs.Layout.{view};
 ghost use Rattle.tree.specs.Kept.{Kept};
-ghost use Rattle.tree.specs.Calling.{Calling};
+ghost use Rattle.tree.specs.Calling.{Answered};
 ghost use Rattle.shootspiral.specs.Interface.{partWords};
 use super::number::answer_number;
 use control::setting::write_setting;
@@ -19,7 +17,7 @@ use tree::layout::Tree;
 #[no_mangle]
 pub extern "C" fn ss_write_procs(tree: &mut Tree, user: u32, group: u64, line: &[u8]) -> u32
     requires { ⌜ Kept (now tree) ⌝ }
-    ensures { λ r. ⌜ Calling (now (tree .entry)) (now (tree .exit)) (writeProcs user group (now (line .entry))) (reply (view (now (tree .entry))) (writeProcs user group (now (line .entry))) .number) r ⌝ }
+    ensures { λ r. ⌜ Answered (now (tree .entry)) (now (tree .exit)) (writeProcs user group (now (line .entry))) r ⌝ }
 {
     answer_number(write_procs(tree, user, GroupId(group), line))
 }
@@ -32,7 +30,7 @@ pub extern "C" fn ss_write_subtree_control(
     line: &[u8],
 ) -> u32
     requires { ⌜ Kept (now tree) ⌝ }
-    ensures { λ r. ⌜ Calling (now (tree .entry)) (now (tree .exit)) (writeControl user group (now (line .entry))) (reply (view (now (tree .entry))) (writeControl user group (now (line .entry))) .number) r ⌝ }
+    ensures { λ r. ⌜ Answered (now (tree .entry)) (now (tree .exit)) (writeControl user group (now (line .entry))) r ⌝ }
 {
     answer_number(write_subtree_control(tree, user, GroupId(group), line))
 }
@@ -46,7 +44,7 @@ pub extern "C" fn ss_write_setting(
     line: &[u8],
 ) -> u32
     requires { ⌜ Kept (now tree) ⌝ }
-    ensures { λ r. ⌜ Calling (now (tree .entry)) (now (tree .exit)) (writeSetting user group (now (file .entry)) (now (line .entry))) (reply (view (now (tree .entry))) (writeSetting user group (now (file .entry)) (now (line .entry))) .number) r ⌝ }
+    ensures { λ r. ⌜ Answered (now (tree .entry)) (now (tree .exit)) (writeSetting user group (now (file .entry)) (now (line .entry))) r ⌝ }
 {
     answer_number(write_setting(tree, user, GroupId(group), file, line))
 }

@@ -4,6 +4,7 @@ ghost use Rattle.model.specs.Calls.{read, membership};
 ghost use Rattle.model.specs.Replies.{reply as replyOf};
 ghost use Rattle.tree.specs.Layout.{view};
 ghost use Rattle.tree.specs.Kept.{Kept};
+ghost use Rattle.tree.specs.Calling.{Answered};
 ghost use Rattle.shootspiral.specs.Interface.{Told};
 use super::number::read_length;
 use super::number::read_number;
@@ -22,7 +23,8 @@ pub extern "C" fn ss_read(
     told: &mut [u64; 1],
 ) -> u32
     requires { ⌜ Kept (now tree) ⌝ }
-    ensures { λ r. ⌜ Told (replyOf (view (now (tree .entry))) (read group (now (file .entry)) (now (reply .entry)))) r (now (told .exit)) (now (reply .exit)) ⌝ }
+    ensures { λ r. ⌜ Answered (now (tree .entry)) (now (tree .entry)) (read group (now (file .entry)) (now (reply .entry))) r ⌝ }
+    ensures { λ r. ⌜ Told (replyOf (view (now (tree .entry))) (read group (now (file .entry)) (now (reply .entry)))) (now (told .exit)) (now (reply .exit)) ⌝ }
 {
     let a = read(tree, GroupId(group), file, reply);
     *told = [read_length(a)];
@@ -37,7 +39,8 @@ pub extern "C" fn ss_membership(
     told: &mut [u64; 1],
 ) -> u32
     requires { ⌜ Kept (now tree) ⌝ }
-    ensures { λ r. ⌜ Told (replyOf (view (now (tree .entry))) (membership process (now (reply .entry)))) r (now (told .exit)) (now (reply .exit)) ⌝ }
+    ensures { λ r. ⌜ Answered (now (tree .entry)) (now (tree .entry)) (membership process (now (reply .entry))) r ⌝ }
+    ensures { λ r. ⌜ Told (replyOf (view (now (tree .entry))) (membership process (now (reply .entry)))) (now (told .exit)) (now (reply .exit)) ⌝ }
 {
     let a = membership(tree, ProcessId(process), reply);
     *told = [read_length(a)];

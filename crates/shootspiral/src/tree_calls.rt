@@ -4,7 +4,7 @@ ghost use Rattle.model.specs.Calls.{make, remove, handOver, admit, fork, exit, 
 ghost use Rattle.model.specs.Replies.{reply};
 ghost use Rattle.tree.specs.Layout.{view, words};
 ghost use Rattle.tree.specs.Kept.{Kept, Fresh};
-ghost use Rattle.tree.specs.Calling.{Calling};
+ghost use Rattle.tree.specs.Calling.{Answered};
 ghost use Rattle.shootspiral.specs.Interface.{roomWords};
 use super::number::answer_number;
 use super::number::room_count;
@@ -44,7 +44,7 @@ pub extern "C" fn ss_tree_words() -> u64
 #[no_mangle]
 pub extern "C" fn ss_make(tree: &mut Tree, user: u32, parent: u64, group: u64) -> u32
     requires { ⌜ Kept (now tree) ⌝ }
-    ensures { λ r. ⌜ Calling (now (tree .entry)) (now (tree .exit)) (make user parent group) (reply (view (now (tree .entry))) (make user parent group) .number) r ⌝ }
+    ensures { λ r. ⌜ Answered (now (tree .entry)) (now (tree .exit)) (make user parent group) r ⌝ }
 {
     answer_number(make(tree, user, GroupId(parent), GroupId(group)))
 }
@@ -52,7 +52,7 @@ pub extern "C" fn ss_make(tree: &mut Tree, user: u32, parent: u64, group: u64) -
 #[no_mangle]
 pub extern "C" fn ss_remove(tree: &mut Tree, user: u32, group: u64) -> u32
     requires { ⌜ Kept (now tree) ⌝ }
-    ensures { λ r. ⌜ Calling (now (tree .entry)) (now (tree .exit)) (remove user group) (reply (view (now (tree .entry))) (remove user group) .number) r ⌝ }
+    ensures { λ r. ⌜ Answered (now (tree .entry)) (now (tree .exit)) (remove user group) r ⌝ }
 {
     answer_number(remove(tree, user, GroupId(group)))
 }
@@ -60,7 +60,7 @@ pub extern "C" fn ss_remove(tree: &mut Tree, user: u32, group: u64) -> u32
 #[no_mangle]
 pub extern "C" fn ss_hand_over(tree: &mut Tree, user: u32, group: u64, owner: u32) -> u32
     requires { ⌜ Kept (now tree) ⌝ }
-    ensures { λ r. ⌜ Calling (now (tree .entry)) (now (tree .exit)) (handOver user group owner) (reply (view (now (tree .entry))) (handOver user group owner) .number) r ⌝ }
+    ensures { λ r. ⌜ Answered (now (tree .entry)) (now (tree .exit)) (handOver user group owner) r ⌝ }
 {
     answer_number(hand_over(tree, user, GroupId(group), owner))
 }
@@ -68,7 +68,7 @@ pub extern "C" fn ss_hand_over(tree: &mut Tree, user: u32, group: u64, owner: u3
 #[no_mangle]
 pub extern "C" fn ss_admit(tree: &mut Tree, process: u64, user: u32) -> u32
     requires { ⌜ Kept (now tree) ⌝ }
-    ensures { λ r. ⌜ Calling (now (tree .entry)) (now (tree .exit)) (admit process user) (reply (view (now (tree .entry))) (admit process user) .number) r ⌝ }
+    ensures { λ r. ⌜ Answered (now (tree .entry)) (now (tree .exit)) (admit process user) r ⌝ }
 {
     answer_number(admit(tree, ProcessId(process), user))
 }
@@ -76,7 +76,7 @@ pub extern "C" fn ss_admit(tree: &mut Tree, process: u64, user: u32) -> u32
 #[no_mangle]
 pub extern "C" fn ss_fork(tree: &mut Tree, parent: u64, process: u64, told: &mut [u64; 2]) -> u32
     requires { ⌜ Kept (now tree) ⌝ }
-    ensures { λ r. ⌜ Calling (now (tree .entry)) (now (tree .exit)) (fork parent process) (reply (view (now (tree .entry))) (fork parent process) .number) r ⌝ }
+    ensures { λ r. ⌜ Answered (now (tree .entry)) (now (tree .exit)) (fork parent process) r ⌝ }
     ensures { λ _. ⌜ now (told .exit) ≡ roomWords (reply (view (now (tree .entry))) (fork parent process)) ⌝ }
 {
     let a = fork(tree, ProcessId(parent), ProcessId(process));
@@ -87,7 +87,7 @@ pub extern "C" fn ss_fork(tree: &mut Tree, parent: u64, process: u64, told: &mut
 #[no_mangle]
 pub extern "C" fn ss_exit(tree: &mut Tree, process: u64) -> u32
     requires { ⌜ Kept (now tree) ⌝ }
-    ensures { λ r. ⌜ Calling (now (tree .entry)) (now (tree .exit)) (exit process) (reply (view (now (tree .entry))) (exit process) .number) r ⌝ }
+    ensures { λ r. ⌜ Answered (now (tree .entry)) (now (tree .exit)) (exit process) r ⌝ }
 {
     answer_number(exit(tree, ProcessId(process)))
 }
@@ -95,7 +95,7 @@ pub extern "C" fn ss_exit(tree: &mut Tree, process: u64) -> u32
 #[no_mangle]
 pub extern "C" fn ss_charge(tree: &mut Tree, process: u64, pages: u64, told: &mut [u64; 2]) -> u32
     requires { ⌜ Kept (now tree) ⌝ }
-    ensures { λ r. ⌜ Calling (now (tree .entry)) (now (tree .exit)) (charge process pages) (reply (view (now (tree .entry))) (charge process pages) .number) r ⌝ }
+    ensures { λ r. ⌜ Answered (now (tree .entry)) (now (tree .exit)) (charge process pages) r ⌝ }
     ensures { λ _. ⌜ now (told .exit) ≡ roomWords (reply (view (now (tree .entry))) (charge process pages)) ⌝ }
 {
     let a = charge(tree, ProcessId(process), pages);
@@ -106,7 +106,7 @@ pub extern "C" fn ss_charge(tree: &mut Tree, process: u64, pages: u64, told: &mu
 #[no_mangle]
 pub extern "C" fn ss_release(tree: &mut Tree, group: u64, pages: u64) -> u32
     requires { ⌜ Kept (now tree) ⌝ }
-    ensures { λ r. ⌜ Calling (now (tree .entry)) (now (tree .exit)) (release group pages) (reply (view (now (tree .entry))) (release group pages) .number) r ⌝ }
+    ensures { λ r. ⌜ Answered (now (tree .entry)) (now (tree .exit)) (release group pages) r ⌝ }
 {
     answer_number(release(tree, GroupId(group), pages))
 }

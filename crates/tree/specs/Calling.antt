@@ -6,6 +6,7 @@ use mathlib.Core.Logic.{_≢_}
 use mathlib.Core.Path.{_≡_}
 use Rattle.model.specs.Calls.{Call, verdict}
 use Rattle.model.specs.Effects.{effect, step}
+use Rattle.model.specs.Replies.{reply}
 use Rattle.model.specs.declared.Answer.the-variants.{Done}
 use Rattle.tree.specs.Layout.{view}
 use Rattle.tree.specs.Kept.{Kept}
@@ -16,6 +17,10 @@ pub record Calling {A : Type 0} (xs ys : List ℕ) (c : Call) (expected r : A) :
   pub tree : view ys ≡ step (view xs) c
   pub kept : Kept ys
   pub same : verdict (view xs) c ≢ Done → ys ≡ xs
+
+-- the same of a caller who is told document 01's number
+abbrev pub Answered : List ℕ → List ℕ → Call → ℕ → Type 0
+Answered xs ys c n = Calling xs ys c (reply (view xs) c .number) n
 
 -- what an accepted call leaves
 pub record Applied (xs ys : List ℕ) (c : Call) : Type 0 where

@@ -1,5 +1,5 @@
 -- `shootspiral::reply_calls::ss_membership` meets its contract. Assumes nothing.
-use Rattle.shootspiral.proofs.InterfaceLaws.{membership-told}
+use Rattle.shootspiral.proofs.InterfaceLaws.{membership-number, membership-told}
 use borrow.Author.Needs.{needs}
 use Rattle.shootspiral.proofs.reply_calls.ss_membership.Statement.{statement}
 use Rattle.shootspiral.proofs.reply_calls.ss_membership.Tie as tie
@@ -19,7 +19,8 @@ same-length c = search needs
 returns : tie.Need-returns
 returns c =
     let k = c .before .before in
-    membership-told _ _ (k .before .before .before .membership .ensures) (c .read-number .ensures) (k .read-length .ensures)
+    let a = k .before .before .before in
+    (membership-number (a .membership .ensures) (a .before .before .before .pre) (c .read-number .ensures), membership-told (a .membership .ensures) (k .read-length .ensures))
 
 pub ss-membership-spec : {M : Type 1} → statement M
 ss-membership-spec =

@@ -1,5 +1,5 @@
 -- `shootspiral::reply_calls::ss_read` meets its contract. Assumes nothing.
-use Rattle.shootspiral.proofs.InterfaceLaws.{read-told}
+use Rattle.shootspiral.proofs.InterfaceLaws.{read-number, read-told}
 use borrow.Author.Needs.{needs}
 use Rattle.shootspiral.proofs.reply_calls.ss_read.Statement.{statement}
 use Rattle.shootspiral.proofs.reply_calls.ss_read.Tie as tie
@@ -19,7 +19,8 @@ same-length c = search needs
 returns : tie.Need-returns
 returns c =
     let k = c .before .before in
-    read-told _ _ (k .before .before .before .read .ensures) (c .read-number .ensures) (k .read-length .ensures)
+    let a = k .before .before .before in
+    (read-number (a .read .ensures) (a .before .before .before .before .pre) (c .read-number .ensures), read-told (a .read .ensures) (k .read-length .ensures))
 
 pub ss-read-spec : {M : Type 1} → statement M
 ss-read-spec =
