@@ -1,4 +1,5 @@
--- What a wish does to a controller, by the wish; some controller of three; what is found of the wishes is so of the line.
+-- Two tests in either order; what a wish does to a controller, by the wish; some controller of three; what is found of the
+-- wishes is so of the line.
 -- Assumes nothing.
 use Prim.Native.Nat.{ℕ}
 use mathlib.Core.Bool.{Bool, true, false, not, _&&_}
@@ -15,6 +16,23 @@ use Rattle.text.specs.declared.control.Wish.the-variants.{Keep, Enable, Disable
 use Rattle.control.specs.Flags.{asksOf, flagOf, forEach, joinsPopulated}
 use Rattle.control.specs.declared.flags.Flags.{Flags}
 
+-- ---- two tests, of which the second is asked first
+
+module _ (a b : Bool) where
+  pub last-not : b ≡ false → false ≡ (a && b)
+  last-not e = rw e (go a)
+    where
+      go : (a : Bool) → false ≡ (a && false)
+      go true = refl
+      go false = refl
+
+  pub last-holds : b ≡ true → (r : Bool) → r ≡ a → r ≡ (a && b)
+  last-holds e r f = rw (e, f) (go a)
+    where
+      go : (a : Bool) → a ≡ (a && true)
+      go true = refl
+      go false = refl
+
 -- ---- one controller, which is in the set where b; r is what was found of b
 
 module _ (b : Bool) (w : Wish) where
@@ -29,18 +47,10 @@ module _ (b : Bool) (w : Wish) where
       go false = refl
 
   pub joins-enabled : w ≡ Enable → (r : Bool) → r ≡ b → not r ≡ joins b (askOf w)
-  joins-enabled e r f = rw (e, f) (go b)
-    where
-      go : (b : Bool) → not b ≡ (not b && true)
-      go true = refl
-      go false = refl
+  joins-enabled e r f = last-holds (not b) _ (ap (λ x. setAfter b (askOf x)) e) (not r) (ap not f)
 
   pub joins-disabled : w ≡ Disable → false ≡ joins b (askOf w)
-  joins-disabled e = rw e (go b)
-    where
-      go : (b : Bool) → false ≡ (not b && false)
-      go true = refl
-      go false = refl
+  joins-disabled e = last-not (not b) _ (ap (λ x. setAfter b (askOf x)) e)
 
   pub leaves-kept : w ≡ Keep → false ≡ leaves b (askOf w)
   leaves-kept e = rw e (go b)
@@ -50,18 +60,10 @@ module _ (b : Bool) (w : Wish) where
       go false = refl
 
   pub leaves-enabled : w ≡ Enable → false ≡ leaves b (askOf w)
-  leaves-enabled e = rw e (go b)
-    where
-      go : (b : Bool) → false ≡ (b && false)
-      go true = refl
-      go false = refl
+  leaves-enabled e = last-not b _ (ap (λ x. not (setAfter b (askOf x))) e)
 
   pub leaves-disabled : w ≡ Disable → (r : Bool) → r ≡ b → r ≡ leaves b (askOf w)
-  leaves-disabled e r f = rw (e, f) (go b)
-    where
-      go : (b : Bool) → b ≡ (b && true)
-      go true = refl
-      go false = refl
+  leaves-disabled e r f = last-holds b _ (ap (λ x. not (setAfter b (askOf x))) e) r f
 
 -- whether a controller that is wanted is available
 pub absent-enabled : (b : Bool) (w : Wish) → w ≡ Enable → (r : Bool) → r ≡ b → not r ≡ (isWanted (askOf w) && not b)

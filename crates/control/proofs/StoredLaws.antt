@@ -23,8 +23,10 @@ use Rattle.model.proofs.Steps.{passed}
 use Rattle.model.proofs.ControlPreservation.{reset-child, reset-other, live-after-control, parent-after-control}
 use Rattle.tree.specs.Layout.{view}
 use Rattle.tree.specs.Changes.{GroupRow, Wrote}
+use Rattle.tree.specs.Counters.{HasParent}
 use Rattle.tree.specs.Kept.{Kept}
 use Rattle.tree.specs.Calling.{Calling}
+use Rattle.tree.proofs.KeptLaws.{live-row}
 use Rattle.tree.proofs.CallLaws.{call-refused, call-done, applied-wrote}
 use Rattle.text.specs.Value.{readingOf}
 use Rattle.text.specs.declared.value.Reading.{Reading}
@@ -116,11 +118,15 @@ module _ (t : Tree) (g : ℕ) (set gone : Controls) where
       (λ k. ap (λ f. f k) (parent-after-control t g set gone)) own-after-control
 
 module _ (xs : List ℕ) (k : Kept xs) (user g : ℕ) (line : List ℕ) (v : verdict (view xs) (writeControl user g line) ≡ Done) where
-  pub control-row : GroupRow xs g
+  control-live : lives (view xs) g ≡ true
   unfolding checks Pass
-  control-row =
-      let c = passed (view xs) (writeControl user g line) v in
-      record { long = k .long; low = k .formed .sound .range g (search) }
+  control-live = let c = passed (view xs) (writeControl user g line) v in (search)
+
+  pub control-row : GroupRow xs g
+  control-row = record { long = k .long; low = k .formed .sound .range g control-live }
+
+  pub control-above : HasParent xs g
+  control-above = live-row xs k g control-live
 
   pub control-done : (ys : List ℕ) (set gone : Controls) → set ≡ newSet (view xs) g line → gone ≡ leaving (view xs) g line
       → Wrote xs ys (controlled (view xs) g set gone)

@@ -12,6 +12,8 @@ use Rattle.tree.specs.Changes.{controlsOf}
 use Rattle.text.specs.Control.{askOf}
 use Rattle.text.specs.declared.control.Wishes.{Wishes}
 use Rattle.control.specs.declared.flags.Flags.{Flags}
+use Rattle.control.specs.declared.flags.Test.{Test}
+use Rattle.control.specs.declared.flags.Test.the-variants.{InSetAfter, Absent, Joining, Leaving, Held}
 
 -- in the set afterwards
 abbrev pub setAt : Tree → ℕ → Controller → Ask → Bool
@@ -30,6 +32,14 @@ leavesAt t g c a = leaves (sets t g c) a
 -- leaving, and in a child's set
 abbrev pub heldAt : Tree → ℕ → Controller → Ask → Bool
 heldAt t g c a = leavesAt t g c a && heldByChild t g c
+
+-- each of these by its name
+abbrev pub testAt : Test → Tree → ℕ → Controller → Ask → Bool
+testAt InSetAfter = setAt
+testAt Absent = absentAt
+testAt Joining = joinsAt
+testAt Leaving = leavesAt
+testAt Held = heldAt
 
 -- the inner-process rule is broken: not the root, a live process, and a controller that joins
 abbrev pub joinsPopulated : Tree → ℕ → (Controller → Ask) → Bool

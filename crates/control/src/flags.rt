@@ -1,4 +1,4 @@
-// What a control line does to each controller of a group's set, as one flag for each; one function for each test.
+// What a control line does to each controller of a group's set: a test of each, answered by one flag for each.
 ghost use mathlib.Core.Path.{_≡_};
 ghost use Prim.Native.Nat.{_<_};
 ghost use Rattle.model.specs.Sizes.{groups};
@@ -6,7 +6,7 @@ ghost use Rattle.model.specs.Control.{anyController};
 ghost use Rattle.text.specs.Control.{askOf};
 ghost use Rattle.tree.specs.Layout.{view};
 ghost use Rattle.tree.specs.Counters.{HasParent};
-ghost use Rattle.control.specs.Flags.{setAt, absentAt, joinsAt, leavesAt, heldAt, flagOf, forEach};
+ghost use Rattle.control.specs.Flags.{setAt, absentAt, joinsAt, leavesAt, heldAt, testAt, flagOf, forEach};
 use model::Controller;
 use model::GroupId;
 use text::control::Wish;
@@ -21,6 +21,15 @@ pub struct Flags {
     pub cpu: bool,
     pub memory: bool,
     pub pids: bool,
+}
+
+// What is asked of a controller and the wish for it.
+pub enum Test {
+    InSetAfter, // in the set once the wish is granted
+    Absent, // wanted, and the group may not have it
+    Joining, // joins the set
+    Leaving, // leaves the set
+    Held, // leaves, and a child has it in its set
 }
 
 // Whether some flag is set.
@@ -96,73 +105,31 @@ fn is_held(t: &Tree, g: GroupId, c: Controller, wish: Wish) -> bool
     held_by_child(t, g, c)
 }
 
-// Each test for each controller.
-pub fn set_after(t: &Tree, g: GroupId, wishes: Wishes) -> Flags
-    requires { ⌜ g .0 < groups ⌝ }
-    ensures { λ r. ⌜ r ≡ forEach (setAt (view (now (t .entry))) (g .0)) wishes ⌝ }
-{
-    let cpu = wishes.cpu;
-    let memory = wishes.memory;
-    let pids = wishes.pids;
-    Flags {
-        cpu: is_set_after(t, g, Controller::Cpu, cpu),
-        memory: is_set_after(t, g, Controller::Memory, memory),
-        pids: is_set_after(t, g, Controller::Pids, pids),
-    }
-}
-
-pub fn absent(t: &Tree, g: GroupId, wishes: Wishes) -> Flags
+// What a test says of one controller.
+fn passes(t: &Tree, g: GroupId, c: Controller, wish: Wish, test: Test) -> bool
     requires { ⌜ HasParent (now t) (g .0) ⌝ }
-    ensures { λ r. ⌜ r ≡ forEach (absentAt (view (now (t .entry))) (g .0)) wishes ⌝ }
+    ensures { λ r. ⌜ r ≡ testAt test (view (now (t .entry))) (g .0) c (askOf wish) ⌝ }
 {
-    let cpu = wishes.cpu;
-    let memory = wishes.memory;
-    let pids = wishes.pids;
-    Flags {
-        cpu: is_absent(t, g, Controller::Cpu, cpu),
-        memory: is_absent(t, g, Controller::Memory, memory),
-        pids: is_absent(t, g, Controller::Pids, pids),
+    match test {
+        Test::InSetAfter => is_set_after(t, g, c, wish),
+        Test::Absent => is_absent(t, g, c, wish),
+        Test::Joining => is_joining(t, g, c, wish),
+        Test::Leaving => is_leaving(t, g, c, wish),
+        Test::Held => is_held(t, g, c, wish),
     }
 }
 
-pub fn joining(t: &Tree, g: GroupId, wishes: Wishes) -> Flags
-    requires { ⌜ g .0 < groups ⌝ }
-    ensures { λ r. ⌜ r ≡ forEach (joinsAt (view (now (t .entry))) (g .0)) wishes ⌝ }
+// What a test says of each controller.
+pub fn for_each(t: &Tree, g: GroupId, wishes: Wishes, test: Test) -> Flags
+    requires { ⌜ HasParent (now t) (g .0) ⌝ }
+    ensures { λ r. ⌜ r ≡ forEach (testAt test (view (now (t .entry))) (g .0)) wishes ⌝ }
 {
     let cpu = wishes.cpu;
     let memory = wishes.memory;
     let pids = wishes.pids;
     Flags {
-        cpu: is_joining(t, g, Controller::Cpu, cpu),
-        memory: is_joining(t, g, Controller::Memory, memory),
-        pids: is_joining(t, g, Controller::Pids, pids),
-    }
-}
-
-pub fn leaving(t: &Tree, g: GroupId, wishes: Wishes) -> Flags
-    requires { ⌜ g .0 < groups ⌝ }
-    ensures { λ r. ⌜ r ≡ forEach (leavesAt (view (now (t .entry))) (g .0)) wishes ⌝ }
-{
-    let cpu = wishes.cpu;
-    let memory = wishes.memory;
-    let pids = wishes.pids;
-    Flags {
-        cpu: is_leaving(t, g, Controller::Cpu, cpu),
-        memory: is_leaving(t, g, Controller::Memory, memory),
-        pids: is_leaving(t, g, Controller::Pids, pids),
-    }
-}
-
-pub fn held(t: &Tree, g: GroupId, wishes: Wishes) -> Flags
-    requires { ⌜ g .0 < groups ⌝ }
-    ensures { λ r. ⌜ r ≡ forEach (heldAt (view (now (t .entry))) (g .0)) wishes ⌝ }
-{
-    let cpu = wishes.cpu;
-    let memory = wishes.memory;
-    let pids = wishes.pids;
-    Flags {
-        cpu: is_held(t, g, Controller::Cpu, cpu),
-        memory: is_held(t, g, Controller::Memory, memory),
-        pids: is_held(t, g, Controller::Pids, pids),
+        cpu: passes(t, g, Controller::Cpu, cpu, test),
+        memory: passes(t, g, Controller::Memory, memory, test),
+        pids: passes(t, g, Controller::Pids, pids, test),
     }
 }

@@ -1,18 +1,14 @@
 // Writes to cgroup.subtree_control.
 ghost use mathlib.Core.Path.{_≡_};
-ghost use Prim.Native.Nat.{_<_};
-ghost use Rattle.model.specs.Sizes.{groups};
 ghost use Rattle.model.specs.Calls.{verdict, writeControl};
 ghost use Rattle.tree.specs.Layout.{view};
+ghost use Rattle.tree.specs.Counters.{HasParent};
 ghost use Rattle.tree.specs.Kept.{Kept};
 ghost use Rattle.tree.specs.Calling.{Calling};
 ghost use Rattle.control.specs.Flags.{asksOf, joinsPopulated};
-use super::flags::absent;
-use super::flags::held;
+use super::flags::Test;
+use super::flags::for_each;
 use super::flags::is_any;
-use super::flags::joining;
-use super::flags::leaving;
-use super::flags::set_after;
 use super::reset::set_and_reset;
 use model::Answer;
 use model::Errno;
@@ -29,16 +25,16 @@ use tree::rule::may_write;
 
 // The inner-process rule: whether a controller joins the set of a group other than the root that holds a process.
 fn joins_populated(t: &Tree, g: GroupId, wishes: Wishes) -> bool
-    requires { ⌜ g .0 < groups ⌝ }
+    requires { ⌜ HasParent (now t) (g .0) ⌝ }
     ensures { λ r. ⌜ r ≡ joinsPopulated (view (now (t .entry))) (g .0) (asksOf wishes) ⌝ }
 {
     if g.0 == 0 {
         return false;
     }
-    if !has_process(t, g) {
+    if !is_any(for_each(t, g, wishes, Test::Joining)) {
         return false;
     }
-    is_any(joining(t, g, wishes))
+    has_process(t, g)
 }
 
 // Einval: no group number. Enoent: not live. Eacces: may not write the group. Einval: a line that is too long, or a bad
@@ -64,10 +60,10 @@ fn vet_control(t: &Tree, user: u32, g: GroupId, line: &[u8]) -> Answer
         return Answer::Refused(Errno::Einval);
     }
     let wishes = asks(line);
-    if is_any(absent(t, g, wishes)) {
+    if is_any(for_each(t, g, wishes, Test::Absent)) {
         return Answer::Refused(Errno::Enoent);
     }
-    if is_any(held(t, g, wishes)) {
+    if is_any(for_each(t, g, wishes, Test::Held)) {
         return Answer::Refused(Errno::Ebusy);
     }
     if joins_populated(t, g, wishes) {
@@ -86,8 +82,8 @@ pub fn write_subtree_control(tree: &mut Tree, user: u32, group: GroupId, line: &
         return vetted;
     };
     let wishes = asks(line);
-    let set = set_after(tree, group, wishes);
-    let gone = leaving(tree, group, wishes);
+    let set = for_each(tree, group, wishes, Test::InSetAfter);
+    let gone = for_each(tree, group, wishes, Test::Leaving);
     set_and_reset(tree, group, set, gone);
     Answer::Done
 }

@@ -12,6 +12,7 @@ use Rattle.model.specs.Control.{asked, anyController}
 use Rattle.model.specs.Hierarchy.{factsOf}
 use Rattle.model.specs.Calls.{writeControl, checks, verdict}
 use Rattle.tree.specs.Layout.{view}
+use Rattle.tree.specs.Counters.{HasParent}
 use Rattle.tree.proofs.KeptLaws.{live-row}
 use Rattle.control.specs.Flags.{absentAt, heldAt, joinsPopulated}
 use Rattle.control.proofs.FlagLaws.{any-asked, joins-asked}
@@ -88,13 +89,13 @@ absent-found : (c : tie.After-is-any) → let a = c .before .before in
     c .is-any .result ≡ anyController (λ k. absentAt (tree-of a) (group-of a) k (asked (line-of a) k))
 absent-found c =
     let a = c .before .before in
-    any-asked _ _ (a .asks .ensures) (absentAt (tree-of a) (group-of a)) _ _ (c .before .absent .ensures) (c .is-any .ensures)
+    any-asked _ _ (a .asks .ensures) (absentAt (tree-of a) (group-of a)) _ _ (c .before .for-each .ensures) (c .is-any .ensures)
 
 held-found : (c : tie.After-is-any2) → let a = asks-at (c .before .before) in
     c .is-any2 .result ≡ anyController (λ k. heldAt (tree-of a) (group-of a) k (asked (line-of a) k))
 held-found c =
     let a = asks-at (c .before .before) in
-    any-asked _ _ (a .asks .ensures) (heldAt (tree-of a) (group-of a)) _ _ (c .before .held .ensures) (c .is-any2 .ensures)
+    any-asked _ _ (a .asks .ensures) (heldAt (tree-of a) (group-of a)) _ _ (c .before .for-each2 .ensures) (c .is-any2 .ensures)
 
 join-found : (c : tie.After-joins-populated) → let a = asks-at (there-at (c .before)) in
     c .joins-populated .result ≡ joinsPopulated (tree-of a) (group-of a) (asked (line-of a))
@@ -150,10 +151,12 @@ returns-5 c = is-barred (short (c .before .before)) (c .before .has-bad-word .en
 asks-requires : tie.Need-asks-requires
 asks-requires c κs = search needs
 
-absent-requires : tie.Need-absent-requires
-absent-requires c κs =
-    let s = begin (c .before) in
-    live-row (s .args .t .now) (s .pre) (s .args .g .0) (alive (live-at (may-at (short-at (c .before)))))
+-- a live group's parent has a row
+above : (c : tie.Else5) → HasParent (begin c .args .t .now) (begin c .args .g .0)
+above c = live-row _ (begin c .pre) _ (alive (live-at (may-at (short-at c))))
+
+for-each-requires : tie.Need-for-each-requires
+for-each-requires c κs = above (c .before)
 
 is-any-requires : tie.Need-is-any-requires
 is-any-requires c κs = search needs
@@ -163,8 +166,8 @@ returns-6 : tie.Need-returns-6
 unfolding verdict checks
 returns-6 c = is-barred (good (c .before .before .before .before)) (absent-found (c .before)) (c .if6 .taken)
 
-held-requires : tie.Need-held-requires
-held-requires c κs = search needs
+for-each-requires-2 : tie.Need-for-each-requires-2
+for-each-requires-2 c κs = above (asks-at c .before)
 
 is-any-requires-2 : tie.Need-is-any-requires-2
 is-any-requires-2 c κs = search needs
@@ -175,7 +178,7 @@ unfolding verdict checks
 returns-7 c = is-barred (there (c .before .before .before)) (held-found (c .before)) (c .if7 .taken)
 
 joins-populated-requires : tie.Need-joins-populated-requires
-joins-populated-requires c κs = search needs
+joins-populated-requires c κs = above (asks-at (there-at c) .before)
 
 -- Ebusy: the inner-process rule
 returns-8 : tie.Need-returns-8
@@ -201,10 +204,10 @@ vet-control-spec =
     has-bad-word-requires
     returns-5
     asks-requires
-    absent-requires
+    for-each-requires
     is-any-requires
     returns-6
-    held-requires
+    for-each-requires-2
     is-any-requires-2
     returns-7
     joins-populated-requires

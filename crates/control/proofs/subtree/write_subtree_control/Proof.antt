@@ -5,9 +5,10 @@ use borrow.Author.Needs.{needs}
 use Rattle.model.specs.declared.Answer.the-variants.{Done}
 use Rattle.model.specs.Calls.{Call, writeControl, verdict}
 use Rattle.tree.specs.Changes.{GroupRow}
+use Rattle.tree.specs.Counters.{HasParent}
 use Rattle.tree.specs.Layout.{view}
 use Rattle.control.specs.Flags.{setAt, leavesAt}
-use Rattle.control.proofs.StoredLaws.{call-stays, control-row, control-done}
+use Rattle.control.proofs.StoredLaws.{call-stays, control-row, control-above, control-done}
 use Rattle.control.proofs.ResetLaws.{ranged-kept}
 use Rattle.control.proofs.FlagLaws.{flag-asked}
 use Rattle.control.proofs.subtree.write_subtree_control.Statement.{statement}
@@ -32,6 +33,9 @@ accepted c = sym (vetted c .vet-control .ensures) ∙ c .enum-told .given .1
 row : (c : tie.After-enum-told) → GroupRow (begin c .args .tree .now) (begin c .args .group .0)
 row c = control-row _ (begin c .pre) _ _ _ (accepted c)
 
+above : (c : tie.After-enum-told) → HasParent (begin c .args .tree .now) (begin c .args .group .0)
+above c = control-above _ (begin c .pre) _ _ _ (accepted c)
+
 vet-control-requires : tie.Need-vet-control-requires
 vet-control-requires c κs = search needs
 
@@ -50,11 +54,11 @@ returns c =
 asks-requires : tie.Need-asks-requires
 asks-requires c κs = search needs
 
-set-after-requires : tie.Need-set-after-requires
-set-after-requires c κs = row (c .before .before) .low
+for-each-requires : tie.Need-for-each-requires
+for-each-requires c κs = above (c .before .before)
 
-leaving-requires : tie.Need-leaving-requires
-leaving-requires c κs = row (c .before .before .before .before) .low
+for-each-requires-2 : tie.Need-for-each-requires-2
+for-each-requires-2 c κs = above (c .before .before .before .before)
 
 set-and-reset-requires : tie.Need-set-and-reset-requires
 set-and-reset-requires c κs =
@@ -69,8 +73,8 @@ returns-2 c =
     let e = a .before in
     let b = begin e .args in
     control-done _ (begin e .pre) _ _ _ (accepted e) _ _ _
-    (flag-asked _ _ (a .asks .ensures) (setAt (view (b .tree .now)) (b .group .0)) _ (s .set-after .ensures))
-    (flag-asked _ _ (a .asks .ensures) (leavesAt (view (b .tree .now)) (b .group .0)) _ (g .leaving .ensures))
+    (flag-asked _ _ (a .asks .ensures) (setAt (view (b .tree .now)) (b .group .0)) _ (s .for-each .ensures))
+    (flag-asked _ _ (a .asks .ensures) (leavesAt (view (b .tree .now)) (b .group .0)) _ (g .for-each2 .ensures))
     (c .set-and-reset .ensures)
 
 pub write-subtree-control-spec : {M : Type 1} → statement M
@@ -82,7 +86,7 @@ write-subtree-control-spec =
     enum-told-2
     returns
     asks-requires
-    set-after-requires
-    leaving-requires
+    for-each-requires
+    for-each-requires-2
     set-and-reset-requires
     returns-2)
