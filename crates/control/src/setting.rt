@@ -2,7 +2,7 @@
 ghost use Prim.Native.Nat.{_≤_};
 ghost use mathlib.Core.Bool.{true};
 ghost use mathlib.Core.Path.{_≡_};
-ghost use Rattle.model.specs.Settings.{settingController, mapLimit, toAmount, figureIn, largest};
+ghost use Rattle.model.specs.Settings.{mapLimit, toAmount, figureIn, largest};
 ghost use Rattle.model.specs.Checks.{first};
 ghost use Rattle.model.specs.Calls.{lineValue, verdict, writeSetting};
 ghost use Rattle.model.specs.Effects.{written};
@@ -14,19 +14,17 @@ ghost use Rattle.tree.specs.Calling.{Calling};
 ghost use Rattle.control.specs.Stores.{changedAt};
 ghost use Rattle.control.specs.Values.{told, Settable, valueChecks};
 use model::Answer;
-use model::Controller;
 use model::Errno;
 use model::GroupId;
 use model::Limit;
 use model::Resource;
-use model::Setting;
 use text::line::is_too_long;
 use text::name::SettingName;
 use text::name::setting_named;
 use text::value::Reading;
 use text::value::read_value;
 use text::value::to_pages;
-use tree::counter::controller_of;
+use tree::counter::setting_controller;
 use tree::layout::GROUPS;
 use tree::layout::Tree;
 use tree::layout::is_live;
@@ -38,16 +36,6 @@ use tree::layout::set_limit;
 use tree::layout::weight;
 use tree::rule::is_on;
 use tree::rule::may_write;
-
-fn setting_controller(s: Setting) -> Controller
-    ensures { λ c. ⌜ c ≡ settingController s ⌝ }
-{
-    match s {
-        Setting::CpuWeight => Controller::Cpu,
-        Setting::CpuMax => Controller::Cpu,
-        Setting::Max(r) => controller_of(r),
-    }
-}
 
 // What a line gives the setting of that name; malformed where there is none.
 fn value_for(file: &[u8], line: &[u8]) -> Reading

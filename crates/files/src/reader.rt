@@ -1,7 +1,6 @@
 // The two calls that deliver a text: a file of a group, and the membership line of a process. Anyone may read.
 ghost use mathlib.Core.Path.{_≡_};
 ghost use Rattle.model.specs.Hierarchy.{factsOf};
-ghost use Rattle.model.specs.Settings.{settingController};
 ghost use Rattle.model.specs.Files.{isPresent, contents, membershipLine};
 ghost use Rattle.model.specs.Calls.{read, membership, fileText};
 ghost use Rattle.text.specs.Write.{Wrote};
@@ -16,17 +15,16 @@ use super::path::put_membership;
 use super::value::put_current;
 use super::value::put_events;
 use super::value::put_setting;
-use model::Controller;
 use model::Errno;
 use model::File;
 use model::GroupId;
 use model::ProcessId;
 use model::ReadAnswer;
-use model::Setting;
 use text::name::FileName;
 use text::name::file_named;
 use text::write::deliver;
 use tree::counter::controller_of;
+use tree::counter::setting_controller;
 use tree::layout::GROUPS;
 use tree::layout::PROCESSES;
 use tree::layout::Tree;
@@ -39,16 +37,6 @@ const LONGEST_TEXT: usize = 1028;
 
 // The longest membership line: "0::", eight numbers of two digits, each after "/", and a newline.
 const LONGEST_LINE: usize = 28;
-
-fn setting_controller(s: Setting) -> Controller
-    ensures { λ c. ⌜ c ≡ settingController s ⌝ }
-{
-    match s {
-        Setting::CpuWeight => Controller::Cpu,
-        Setting::CpuMax => Controller::Cpu,
-        Setting::Max(r) => controller_of(r),
-    }
-}
 
 // Whether a group has the file.
 fn is_present(t: &Tree, g: GroupId, file: File) -> bool

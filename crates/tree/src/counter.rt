@@ -3,6 +3,7 @@ ghost use mathlib.Core.Path.{_≡_};
 ghost use Prim.Native.Nat.{_+_, _-_, _<_, _≤_};
 ghost use Rattle.model.specs.Sizes.{groups};
 ghost use Rattle.model.specs.Tree.{controllerOf};
+ghost use Rattle.model.specs.Settings.{settingController};
 ghost use Rattle.model.specs.Rooms.{over, rootLimit, actingLimit, consult};
 ghost use Rattle.tree.specs.Layout.{put, view, sumField, sumIn};
 ghost use Rattle.tree.specs.Changes.{Adjusted};
@@ -19,6 +20,7 @@ use model::Controller;
 use model::GroupId;
 use model::Limit;
 use model::Resource;
+use model::Setting;
 
 // Room, after so many groups were consulted; or the first group without room, and how many were consulted with it.
 pub enum Room {
@@ -32,6 +34,16 @@ pub fn controller_of(r: Resource) -> Controller
     match r {
         Resource::Pages => Controller::Memory,
         Resource::Processes => Controller::Pids,
+    }
+}
+
+pub fn setting_controller(s: Setting) -> Controller
+    ensures { λ c. ⌜ c ≡ settingController s ⌝ }
+{
+    match s {
+        Setting::CpuWeight => Controller::Cpu,
+        Setting::CpuMax => Controller::Cpu,
+        Setting::Max(r) => controller_of(r),
     }
 }
 
