@@ -8,17 +8,14 @@ use super::flags::Flags;
 use model::GroupId;
 use model::Limit;
 use model::Resource;
+use tree::layout::DEFAULT_PERIOD;
+use tree::layout::DEFAULT_WEIGHT;
 use tree::layout::GROUPS;
 use tree::layout::Tree;
 use tree::layout::set_controls;
 use tree::layout::set_cpu;
 use tree::layout::set_limit;
 use tree::rule::is_child;
-
-// The defaults of document 01: cpu.weight 100, cpu.max "max 100000".
-const DEFAULT_WEIGHT: u64 = 100;
-
-const DEFAULT_PERIOD: u64 = 100000;
 
 // cpu.weight and cpu.max of a group at their defaults, where cpu is gone.
 fn reset_cpu(t: &mut Tree, k: GroupId, gone: bool)

@@ -34,7 +34,7 @@ amount-fresh m Processes a = held-none _ processes _ _ a (λ i _. inl refl)
 
 -- the stores of the root's row
 abbrev pub rootRow : ℕ → List (ℕ × ℕ)
-rootRow m = (liveField, 1) ∷ (weightField, 100) ∷ (periodField, 100000) ∷ (machineField, m) ∷ []
+rootRow m = (liveField, 1) ∷ (weightField, defaultCpu .weight) ∷ (periodField, defaultCpu .period) ∷ (machineField, m) ∷ []
 
 -- rows of zeros, and the root's row
 abbrev noWords : ℕ → ℕ

@@ -7,7 +7,7 @@ use mathlib.Core.Path.{_≡_, refl, _∙_, subst}
 use borrow.Author.Tests.{ne-eqb}
 use Rattle.model.specs.Functions.{upd}
 use Rattle.model.specs.Sizes.{processes}
-use Rattle.model.specs.Tree.{Group, Process, at, withCore, withOwn, withOwner, withSet, noGroup, newGroup, atGroup, atProcess}
+use Rattle.model.specs.Tree.{Group, Process, defaultCpu, at, withCore, withOwn, withOwner, withSet, noGroup, newGroup, atGroup, atProcess}
 use Rattle.model.specs.declared.Resource.{Resource}
 use Rattle.model.specs.declared.Resource.the-variants.{Pages, Processes}
 use Rattle.model.specs.declared.Limit.{Limit}
@@ -146,13 +146,13 @@ module _ (xs ys : List ℕ) (g : ℕ) (k : GroupRow xs g) where
       rw e
       (row-put-all xs xs g (word xs g) (emptyRow live parent depth owner weight period) (omega (arith, k .low)) (omega arith) (row-start xs g (k .long)))
 
-  pub made-group : (parent depth owner : ℕ) → ys ≡ putAll xs g (emptyRow 1 parent depth owner 100 100000)
+  pub made-group : (parent depth owner : ℕ) → ys ≡ putAll xs g (emptyRow 1 parent depth owner (defaultCpu .weight) (defaultCpu .period))
       → Cleared xs ys (atGroup (view xs) g (newGroup parent depth owner)) g
   unfolding upd
   made-group parent depth owner e =
-      cleared-row xs ys g (updAll (word xs g) (emptyRow 1 parent depth owner 100 100000)) (newGroup parent depth owner)
+      cleared-row xs ys g (updAll (word xs g) (emptyRow 1 parent depth owner (defaultCpu .weight) (defaultCpu .period))) (newGroup parent depth owner)
       (record { live = refl; parent = refl; own = refl; pages = refl; processes = refl; depth = refl; owner = refl; cpu = refl; memory = refl; pids = refl; weight = refl; quota = refl; period = refl; place = refl; user = refl; machine = refl })
-      (row-stores 1 parent depth owner 100 100000 e) refl refl
+      (row-stores 1 parent depth owner (defaultCpu .weight) (defaultCpu .period) e) refl refl
 
   pub removed-group : ys ≡ putAll xs g (emptyRow 0 0 0 0 0 0) → Cleared xs ys (atGroup (view xs) g noGroup) g
   unfolding upd

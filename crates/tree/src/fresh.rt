@@ -1,5 +1,7 @@
 // A fresh tree: the root alone, with no process and no pages.
 ghost use Rattle.tree.specs.Kept.{Fresh};
+use super::layout::DEFAULT_PERIOD;
+use super::layout::DEFAULT_WEIGHT;
 use super::layout::LIVE;
 use super::layout::MACHINE;
 use super::layout::PERIOD;
@@ -15,8 +17,8 @@ pub fn fresh(pages: u64) -> Tree
 {
     let mut t = [0u64; WORDS];
     t[LIVE] = 1;
-    t[WEIGHT] = 100;
-    t[PERIOD] = 100000;
+    t[WEIGHT] = DEFAULT_WEIGHT;
+    t[PERIOD] = DEFAULT_PERIOD;
     if pages < LARGEST_MACHINE {
         t[MACHINE] = pages;
         return t;

@@ -27,6 +27,11 @@ pub const WORDS: usize = PROCESSES as usize * ROW;
 
 pub type Tree = [u64; WORDS];
 
+// The defaults of document 01: cpu.weight 100, cpu.max "max 100000".
+pub const DEFAULT_WEIGHT: u64 = 100;
+
+pub const DEFAULT_PERIOD: u64 = 100000;
+
 // The places in a row.
 pub const LIVE: usize = 0;
 
@@ -326,7 +331,16 @@ pub fn put_group(t: &mut Tree, g: GroupId, above: GroupId, deep: u64, user: u32)
     requires { ⌜ GroupRow (now t) (g .0) ⌝ }
     ensures { λ _. ⌜ Cleared (now (t .entry)) (now (t .exit)) (atGroup (view (now (t .entry))) (g .0) (newGroup (above .0) deep user)) (g .0) ⌝ }
 {
-    put_row(t, g, 1, above.0, deep, user as u64, 100, 100000);
+    put_row(
+        t,
+        g,
+        1,
+        above.0,
+        deep,
+        user as u64,
+        DEFAULT_WEIGHT,
+        DEFAULT_PERIOD,
+    );
 }
 
 // A group that is no longer live.
