@@ -4,11 +4,10 @@ use Prim.Native.Nat.{ℕ, _+_, _-_, _≤_, _<_}
 use native.Mathlib.Omega.{arith}
 use mathlib.Core.Bool.{Bool, true, false}
 use mathlib.Core.List.{List}
-use mathlib.Core.Logic.{_≢_}
-use mathlib.Core.Path.{_≡_, refl, ap, sym, _∙_, subst}
+use mathlib.Core.Path.{_≡_, refl, ap, sym, _∙_}
 use Rattle.model.specs.Functions.{pick, upd, weigh}
 use Rattle.model.specs.Sizes.{groups, largestCharge}
-use Rattle.model.specs.Tree.{Tree, Core, Group, withOwn, cores, lives, parents, places}
+use Rattle.model.specs.Tree.{Core, Group, withOwn, cores, lives, parents, places}
 use Rattle.model.specs.Hierarchy.{inside, ownPages, usage, amount}
 use Rattle.model.specs.Calls.{Call, verdict}
 use Rattle.model.specs.Effects.{effect}
@@ -16,15 +15,15 @@ use Rattle.model.specs.declared.Resource.{Resource}
 use Rattle.model.specs.declared.Resource.the-variants.{Pages, Processes}
 use Rattle.model.specs.declared.Answer.the-variants.{Done}
 use Rattle.model.proofs.FunctionLaws.{upd-keeps, upd-map, weigh-yes, weigh-add}
-use Rattle.model.proofs.ChainLaws.{inside-self}
 use Rattle.model.proofs.AmountLaws.{usage-change, population-same, own-within-usage}
 use Rattle.tree.specs.Layout.{view, sumIn}
 use Rattle.tree.specs.Changes.{Wrote, Adjusted, ownSet}
 use Rattle.tree.specs.Counters.{Adjustable}
 use Rattle.tree.specs.Kept.{Kept}
 use Rattle.tree.specs.Calling.{Applied}
-use Rattle.tree.proofs.KeptLaws.{amount-small, adjustable}
-use Rattle.tree.proofs.CallLaws.{applied}
+use Rattle.tree.proofs.KeptLaws.{own-small, adjustable}
+use Rattle.tree.proofs.AdjustLaws.{pages-apart}
+use Rattle.tree.proofs.CallLaws.{applied-as}
 use Rattle.accounting.specs.Pages.{pagesSet, PagesAdjustable, PagesAdjusted}
 
 -- Usage after one group's own pages changed.
@@ -46,22 +45,12 @@ unfolding weigh
 sum-follows true n m s u e = omega arith
 sum-follows false n m s u e = omega arith
 
-resources-apart : Processes ≢ Pages
-resources-apart e = let z : _≡_ {A = ℕ} 0 1 = cc in omega arith
-
 module _ (xs : List ℕ) (g n m : ℕ) (p : PagesAdjustable xs g n m) where
   pub group-low : g < groups
   group-low = p .home .kept .formed .sound .range g (p .home .live)
 
-  pub own-small : view xs .group g .core .own + n < 18446744073709551616
-  own-small =
-      let w = p .home .kept .formed in
-      omega (
-        arith,
-        own-within-usage (cores (view xs)) g g group-low (p .home .live) (inside-self (w .sound) g (p .home .live)),
-        amount-small (view xs) w Pages g,
-        p .few,
-      )
+  pub own-fits : view xs .group g .core .own + n < 18446744073709551616
+  own-fits = omega (arith, own-small xs (p .home .kept) g (p .home .live), p .few)
 
   pub sums-adjustable : (i j : ℕ) → i ≤ largestCharge → j ≤ view xs .group g .core .own → Adjustable xs Pages g i j
   sums-adjustable i j few enough =
@@ -86,7 +75,7 @@ module _ (xs : List ℕ) (g n m : ℕ) (p : PagesAdjustable xs g n m) where
         ∙ sum-follows b n m (sumIn xs Pages a) (usage after a) u
         ∙ ap (λ (k : ℕ → Core). usage k a) (sym (upd-map (λ (x : Group). x .core) (view xs .group) g _))
     sums-after Processes a l =
-        wrote .sums Processes a ∙ adjusted .other Processes resources-apart a
+        wrote .sums Processes a ∙ adjusted .other Processes (λ e. pages-apart (sym e)) a
         ∙ p .home .kept .sums Processes a l
         ∙ sym (population-same (cores (view xs)) (cores (pagesSet (view xs) g n m)) (places (view xs))
         (upd-keeps (λ (x : Group). x .core .parent) (view xs .group) g _ refl) a)
@@ -103,5 +92,4 @@ module _ (xs : List ℕ) (g n m : ℕ) (p : PagesAdjustable xs g n m) where
 pub applied-pages : (xs ys : List ℕ) (c : Call) (g n m : ℕ) → Kept xs → verdict (view xs) c ≡ Done → PagesAdjusted xs ys g n m
     → effect (view xs) c ≡ pagesSet (view xs) g n m → Applied xs ys c
 applied-pages xs ys c g n m k v p e =
-    applied xs k c v ys (p .long) (p .tree ∙ sym e)
-    (subst (λ (u : Tree). (r : Resource) (a : ℕ) → lives u a ≡ true → sumIn ys r a ≡ amount (cores u) (places u) r a) (sym e) (p .sums))
+    applied-as xs k c v ys (pagesSet (view xs) g n m) e (p .long) (p .tree) (p .sums)

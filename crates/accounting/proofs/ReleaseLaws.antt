@@ -15,13 +15,13 @@ use Rattle.model.proofs.Steps.{passed}
 use Rattle.tree.specs.Layout.{view}
 use Rattle.tree.specs.Kept.{Kept, KeptAt}
 use Rattle.tree.specs.Calling.{Calling}
-use Rattle.tree.proofs.CallLaws.{call-refused, call-done}
+use Rattle.tree.proofs.CallLaws.{call-stays, call-done}
 use Rattle.accounting.specs.Pages.{PagesAdjustable, PagesAdjusted}
 use Rattle.accounting.proofs.PagesLaws.{applied-pages}
 
 module _ (xs : List ℕ) (k : Kept xs) (g n : ℕ) (a : Answer) (d : a ≡ verdict (view xs) (release g n)) where
   pub release-refused : (e : Errno) → a ≡ Refused e → Calling xs xs (release g n) (verdict (view xs) (release g n)) a
-  release-refused e r = call-refused xs k (release g n) _ _ e (sym d ∙ r) d
+  release-refused e r = call-stays xs k (release g n) a e d r
 
   -- The checks pass.
   module _ (r : a ≡ Done) where

@@ -10,13 +10,11 @@ use Rattle.model.specs.Hierarchy.{childOf, ownPages, amount}
 use Rattle.model.specs.Settings.{SettingValue}
 use Rattle.model.specs.Rules.{leaving}
 use Rattle.model.specs.Checks.{Pass}
-use Rattle.model.specs.Calls.{Call, writeControl, writeSetting, lineValue, checks, verdict}
+use Rattle.model.specs.Calls.{writeControl, writeSetting, lineValue, checks, verdict}
 use Rattle.model.specs.Effects.{newSet, controlled, written, effect}
 use Rattle.model.specs.declared.Resource.{Resource}
 use Rattle.model.specs.declared.Resource.the-variants.{Pages, Processes}
-use Rattle.model.specs.declared.Errno.{Errno}
-use Rattle.model.specs.declared.Answer.{Answer}
-use Rattle.model.specs.declared.Answer.the-variants.{Done, Refused}
+use Rattle.model.specs.declared.Answer.the-variants.{Done}
 use Rattle.model.proofs.FunctionLaws.{split, upd-keeps}
 use Rattle.model.proofs.AmountLaws.{usage-same, population-same}
 use Rattle.model.proofs.Steps.{passed}
@@ -27,18 +25,13 @@ use Rattle.tree.specs.Counters.{HasParent}
 use Rattle.tree.specs.Kept.{Kept}
 use Rattle.tree.specs.Calling.{Calling}
 use Rattle.tree.proofs.KeptLaws.{live-row}
-use Rattle.tree.proofs.CallLaws.{call-refused, call-done, applied-wrote}
+use Rattle.tree.proofs.CallLaws.{call-done, applied-wrote}
 use Rattle.text.specs.Value.{readingOf}
 use Rattle.text.specs.declared.value.Reading.{Reading}
 use Rattle.control.specs.Stores.{changedAt}
 use Rattle.control.specs.Values.{told, Settable}
 use Rattle.control.proofs.WroteLaws.{wrote-as}
 use Rattle.control.proofs.ValueLaws.{told-value}
-
--- a refusal by the vetting leaves the words as they are
-pub call-stays : (xs : List ℕ) → Kept xs → (c : Call) (r : Answer) (e : Errno) → r ≡ verdict (view xs) c → r ≡ Refused e
-    → Calling xs xs c (verdict (view xs) c) r
-call-stays xs k c r e a f = call-refused xs k c _ r e (sym a ∙ f) a
 
 -- amounts go by parents, own pages and places
 amount-same : (s s′ : ℕ → Core) (pl : ℕ → Place) → ((g : ℕ) → s′ g .parent ≡ s g .parent)

@@ -1,25 +1,20 @@
 -- Checks made one after another, each by a test that a function answered; and what the tests of a setting say.
 -- Assumes nothing.
-use Prim.Native.Nat.{ℕ, _<_}
+use Prim.Native.Nat.{ℕ}
 use mathlib.Core.Bool.{Bool, true, false}
 use mathlib.Core.List.{List, [], _∷_}
 use mathlib.Core.Option.{Option, some}
 use mathlib.Core.Path.{_≡_, refl, ap, sym, _∙_}
 use Rattle.model.specs.Functions.{passes}
-use Rattle.model.specs.Sizes.{groups}
 use Rattle.model.specs.Checks.{Check, bar, need, first}
-use Rattle.model.specs.Tree.{Tree, lives, parents}
+use Rattle.model.specs.Tree.{Tree}
 use Rattle.model.specs.Hierarchy.{on}
-use Rattle.model.specs.Rules.{mayWrite}
 use Rattle.model.specs.Settings.{settingController}
 use Rattle.model.specs.declared.Setting.{Setting}
 use Rattle.model.specs.declared.Controller.{Controller}
 use Rattle.model.specs.declared.Errno.{Errno}
 use Rattle.model.specs.declared.Answer.{Answer}
 use Rattle.model.specs.declared.Answer.the-variants.{Done, Refused}
-use Rattle.model.proofs.FunctionLaws.{whether}
-use Rattle.tree.specs.Layout.{view}
-use Rattle.tree.specs.Kept.{Kept}
 
 -- of the checks `all` those before `rest` pass
 pub record Passed (all rest : List Check) : Type 0 where
@@ -55,20 +50,7 @@ module _ {all : List Check} where
   is-rest p h = h ∙ sym (p .same)
 
 module _ (t : Tree) (g : ℕ) where
-  -- the parent, found first
-  pub may-write-parent : (user p : ℕ) (r : Bool) → p ≡ parents t g → r ≡ mayWrite t user p → r ≡ mayWrite t user (parents t g)
-  may-write-parent user p r e f = f ∙ ap (mayWrite t user) e
-
   -- the controller of a setting, found first
   pub setting-on : (o : Option Setting) (s : Setting) (c : Controller) (r : Bool) → o ≡ some s → c ≡ settingController s
       → r ≡ on t c g → r ≡ passes o (λ x. on t (settingController x) g)
   setting-on o s c r e f h = h ∙ ap (λ x. on t x g) f ∙ ap (λ x. passes x (λ y. on t (settingController y) g)) (sym e)
-
--- a live group's parent has a row, the root's too
-pub parent-low : (xs : List ℕ) → Kept xs → (g p : ℕ) → lives (view xs) g ≡ true → p ≡ parents (view xs) g → p < groups
-parent-low xs k g p l e =
-    let s = k .formed .sound in
-    rw e
-    (whether g 0
-    (λ z. rw (z, s .top) (s .range 0 (s .root)))
-    (λ nz. s .range (parents (view xs) g) (s .above g l nz)))

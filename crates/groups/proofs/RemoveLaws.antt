@@ -1,6 +1,6 @@
 -- What an accepted remove finds, that the pages it passes on fit a word, and that its stores give the definitions' tree:
 -- the pages stay inside every group above, so that no other group's amount changes. Assumes nothing.
-use Prim.Native.Nat.{ℕ, zero, suc, _+_, _≤_, _<_}
+use Prim.Native.Nat.{ℕ, zero, suc, _+_, _<_}
 use native.Mathlib.Omega.{arith}
 use mathlib.Core.Bool.{Bool, true, false, not}
 use mathlib.Core.List.{List}
@@ -9,7 +9,7 @@ use mathlib.Core.Path.{_≡_, refl, ap, sym, _∙_}
 use lib.Dec.{eqb}
 use borrow.Author.Tests.{eqb-false, eq-eqb, ne-eqb}
 use Rattle.model.specs.Functions.{upd, weigh, sum, any}
-use Rattle.model.specs.Sizes.{groups, processes, largestMachine}
+use Rattle.model.specs.Sizes.{groups, processes}
 use Rattle.model.specs.Checks.{Pass}
 use Rattle.model.specs.Tree.{Tree, Group, Place, nowhere, at, groupOf, noCore, noGroup, atGroup, cores, lives, parents, depths, places}
 use Rattle.model.specs.Hierarchy.{inside, held, headcount, population, amount, factsOf}
@@ -21,25 +21,16 @@ use Rattle.model.specs.declared.Resource.{Resource}
 use Rattle.model.specs.declared.Resource.the-variants.{Processes}
 use Rattle.model.specs.declared.Answer.the-variants.{Done}
 use Rattle.model.proofs.FunctionLaws.{split, whether, clash, weigh-yes, weigh-no, weigh-zero, upd-same, upd-other, upd-map, upd-keeps}
-use Rattle.model.proofs.ChainLaws.{root-inside, inside-self, leaf-alone}
+use Rattle.model.proofs.ChainLaws.{inside-self, leaf-alone}
 use Rattle.model.proofs.RuleLaws.{NoChild}
-use Rattle.model.proofs.AmountLaws.{own-within-usage, amount-after-remove}
+use Rattle.model.proofs.AmountLaws.{amount-after-remove}
 use Rattle.model.proofs.Steps.{passed, no-child, no-process}
 use Rattle.tree.specs.Layout.{view, sumIn}
 use Rattle.tree.specs.Changes.{Wrote, Cleared, ownSet}
 use Rattle.tree.specs.Kept.{Kept, KeptAt}
 use Rattle.tree.specs.Calling.{Applied}
+use Rattle.tree.proofs.KeptLaws.{parent-low, own-small}
 use Rattle.groups.proofs.ClearedLaws.{cleared-after-wrote, applied-cleared}
-
--- the root is its own parent
-pub parent-low : (xs : List ℕ) → Kept xs → (g : ℕ) → lives (view xs) g ≡ true → parents (view xs) g < groups
-parent-low xs k g l =
-    let s = k .formed .sound in
-    whether g 0 (λ z. rw (z, s .top) (omega arith)) (λ nz. s .range (parents (view xs) g) (s .above g l nz))
-
-own-small : (t : Tree) → WellFormed t → (g : ℕ) → lives t g ≡ true → t .group g .core .own ≤ largestMachine
-own-small t w g l =
-    omega (arith, own-within-usage (cores t) 0 g (w .sound .range g l) l (root-inside (w .sound) g l), w .sized .fits, w .sized .size)
 
 -- Counted one by one, some number below n passes a test just where the count is not 0.
 any-counted : (n : ℕ) (f : ℕ → Bool) (h : ℕ → ℕ) → ((j : ℕ) → h j ≡ weigh (f j) 1) → any n f ≡ not (eqb (sum n h) 0)
@@ -102,12 +93,12 @@ module _ (xs : List ℕ) (k : Kept xs) (user g : ℕ) (v : verdict (view xs) (re
   -- The parent, found by the code.
   module _ (p : ℕ) (a : p ≡ parents (view xs) g) where
     pub parent-found : p < groups
-    parent-found = rw a (parent-low xs k g (here .live))
+    parent-found = parent-low xs k g p (here .live) a
 
     pub pages-fit : (m n : ℕ) → m ≡ view xs .group p .core .own → n ≡ view xs .group g .core .own → m + n < 18446744073709551616
     pages-fit m n b d =
         let l : lives (view xs) p ≡ true = rw a (k .formed .sound .above g (here .live) (here .nonroot)) in
-        omega (arith, own-small (view xs) (k .formed) p l, own-small (view xs) (k .formed) g (here .live))
+        omega (arith, own-small xs k p l, own-small xs k g (here .live))
 
   -- the parent with the pages, and the groups with that parent
   abbrev parent-after : Group

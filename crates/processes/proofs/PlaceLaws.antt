@@ -4,7 +4,6 @@ use Prim.Native.Nat.{ℕ, _+_, _-_, _≤_, _<_}
 use native.Mathlib.Omega.{arith}
 use mathlib.Core.Bool.{Bool, true, false}
 use mathlib.Core.List.{List}
-use mathlib.Core.Logic.{_≢_}
 use mathlib.Core.Path.{_≡_, ap, sym, _∙_, subst}
 use lib.ListN.{length}
 use Rattle.model.specs.Functions.{pick, upd, weigh}
@@ -27,13 +26,11 @@ use Rattle.tree.specs.Changes.{Wrote, Adjusted}
 use Rattle.tree.specs.Counters.{Adjustable}
 use Rattle.tree.specs.Kept.{Kept}
 use Rattle.tree.specs.Calling.{Applied}
+use Rattle.tree.proofs.AdjustLaws.{pages-apart}
 use Rattle.tree.proofs.KeptLaws.{adjustable}
-use Rattle.tree.proofs.CallLaws.{applied}
+use Rattle.tree.proofs.CallLaws.{applied-as}
 use Rattle.tree.proofs.RoomCallLaws.{sum-after-adjust}
 use Rattle.processes.specs.Place.{Vacant, Standing, Moving, Seated}
-
-pages-apart : Pages ≢ Processes
-pages-apart e = let z : _≡_ {A = ℕ} 0 1 = cc in omega arith
 
 -- what a process in that place adds to the number inside a
 abbrev counted : Tree → Place → ℕ → ℕ
@@ -209,5 +206,4 @@ module _ (xs : List ℕ) (p g : ℕ) (h : Moving xs p g) (ys : List ℕ) (source
 pub applied-seated : (xs ys : List ℕ) (c : Call) (p : ℕ) (v : Process) → Kept xs → verdict (view xs) c ≡ Done → Seated xs ys p v
     → effect (view xs) c ≡ atProcess (view xs) p v → Applied xs ys c
 applied-seated xs ys c p v k e d f =
-    applied xs k c e ys (d .long) (d .tree ∙ sym f)
-    (subst (λ (u : Tree). (r : Resource) (a : ℕ) → lives u a ≡ true → sumIn ys r a ≡ amount (cores u) (places u) r a) (sym f) (d .sums))
+    applied-as xs k c e ys (atProcess (view xs) p v) f (d .long) (d .tree) (d .sums)

@@ -20,6 +20,9 @@ use Rattle.tree.specs.Changes.{Adjusted}
 use Rattle.tree.specs.Counters.{Adjustable}
 use Rattle.tree.proofs.RowLaws.{RowPut, row-start, row-put, word-kept, view-after-sum}
 
+pub pages-apart : Pages ≢ Processes
+pages-apart e = let z : _≡_ {A = ℕ} 0 1 = cc in omega arith
+
 -- The words after one sum was stored.
 module _ (xs ys : List ℕ) (r : Resource) (g v : ℕ) (l : length xs ≡ words) (low : g < groups) (e : ys ≡ put xs g (sumField r) v) where
   field-low : (q : Resource) → sumField q < row

@@ -12,6 +12,7 @@ use Rattle.model.specs.Effects.{effect}
 use Rattle.model.specs.WellFormed.{WellFormed}
 use Rattle.model.specs.declared.Resource.{Resource}
 use Rattle.model.specs.declared.Errno.{Errno}
+use Rattle.model.specs.declared.Answer.{Answer}
 use Rattle.model.specs.declared.Answer.the-variants.{Done, Refused}
 use Rattle.model.proofs.Steps.{step-accepted, step-refused, passed, well-formed-effect}
 use Rattle.tree.specs.Layout.{words, view, sumIn}
@@ -23,6 +24,10 @@ module _ (xs : List ℕ) (k : Kept xs) (c : Call) where
   pub call-refused : {A : Type 0} (expected r : A) (e : Errno) → verdict (view xs) c ≡ Refused e → r ≡ expected → Calling xs xs c expected r
   call-refused expected r e v a =
       record { answer = a; tree = sym (step-refused (view xs) c e v); kept = k; same = λ _. refl }
+
+  -- the vetting's own answer
+  pub call-stays : (r : Answer) (e : Errno) → r ≡ verdict (view xs) c → r ≡ Refused e → Calling xs xs c (verdict (view xs) c) r
+  call-stays r e a f = call-refused _ r e (sym a ∙ f) a
 
   module _ (v : verdict (view xs) c ≡ Done) where
     pub call-done : {A : Type 0} (ys : List ℕ) (expected r : A) → Applied xs ys c → r ≡ expected → Calling xs ys c expected r
@@ -49,6 +54,13 @@ module _ (xs : List ℕ) (k : Kept xs) (c : Call) where
                     subst (λ (t : Tree). (r : Resource) (g : ℕ) → lives t g ≡ true → sumIn ys r g ≡ amount (cores t) (places t) r g) (sym e) s;
               };
         }
+
+    -- the same where the effect is known as u
+    pub applied-as : (ys : List ℕ) (u : Tree) → effect (view xs) c ≡ u → length ys ≡ words → view ys ≡ u
+        → ((r : Resource) (g : ℕ) → lives u g ≡ true → sumIn ys r g ≡ amount (cores u) (places u) r g) → Applied xs ys c
+    applied-as ys u f l e s =
+        applied ys l (e ∙ sym f)
+        (subst (λ (t : Tree). (r : Resource) (g : ℕ) → lives t g ≡ true → sumIn ys r g ≡ amount (cores t) (places t) r g) (sym f) s)
 
     -- stores that change no sum, for an effect that changes no amount
     pub applied-wrote : (ys : List ℕ) → Wrote xs ys (effect (view xs) c)

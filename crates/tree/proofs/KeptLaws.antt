@@ -1,5 +1,5 @@
--- What follows of words that keep the invariant: sums are small, chains can be searched and adjusted, and room found by the
--- running sums is room by the definitions. Assumes nothing.
+-- What follows of words that keep the invariant: sums and own pages are small, a parent has a row, chains can be searched and
+-- adjusted, and room found by the running sums is room by the definitions. Assumes nothing.
 use Prim.Native.Nat.{ℕ, zero, suc, _+_, _≤_, _<_}
 use native.Mathlib.Omega.{arith}
 use mathlib.Core.Bool.{Bool, true, false}
@@ -14,8 +14,9 @@ use Rattle.model.specs.WellFormed.{Sound, WellFormed}
 use Rattle.model.specs.declared.Resource.{Resource}
 use Rattle.model.specs.declared.Resource.the-variants.{Pages, Processes}
 use Rattle.model.specs.declared.Limit.{Limit}
-use Rattle.model.proofs.FunctionLaws.{split, weigh-yes, weigh-no, member-here, member-there}
+use Rattle.model.proofs.FunctionLaws.{split, whether, weigh-yes, weigh-no, member-here, member-there}
 use Rattle.model.proofs.ChainLaws.{inside-live, root-inside}
+use Rattle.model.proofs.AmountLaws.{own-within-usage}
 use Rattle.tree.specs.Layout.{view, sumIn}
 use Rattle.tree.specs.Counters.{listed, ChainOf, HasParent, Adjustable, Searchable}
 use Rattle.tree.specs.Kept.{Kept}
@@ -82,6 +83,26 @@ module _ (xs : List ℕ) (k : Kept xs) where
         low = k .formed .sound .range a l;
         above = λ nz. k .formed .sound .range (parents (view xs) a) (k .formed .sound .above a l nz);
       }
+
+  -- a live group's parent has a row, the root's too
+  pub parent-low : (g p : ℕ) → lives (view xs) g ≡ true → p ≡ parents (view xs) g → p < groups
+  parent-low g p l e =
+      let s = k .formed .sound in
+      rw e
+      (whether g 0
+      (λ z. rw (z, s .top) (s .range 0 (s .root)))
+      (λ nz. s .range (parents (view xs) g) (s .above g l nz)))
+
+  -- own pages are within the machine
+  pub own-small : (g : ℕ) → lives (view xs) g ≡ true → view xs .group g .core .own ≤ largestMachine
+  own-small g l =
+      let w = k .formed in
+      omega (
+        arith,
+        own-within-usage (cores (view xs)) 0 g (w .sound .range g l) l (root-inside (w .sound) g l),
+        w .sized .fits,
+        w .sized .size,
+      )
 
   module _ (g : ℕ) (l : lives (view xs) g ≡ true) (c : Chain) (h : ChainOf (view xs) g c) where
     -- a group of the chain lives

@@ -1,6 +1,6 @@
 -- `accounting::pages::adjust_pages` meets its contract: the sums above change as the usage does. Assumes nothing.
 use native.Mathlib.Omega.{arith}
-use Rattle.accounting.proofs.PagesLaws.{group-low, own-small, sums-adjustable, pages-adjusted}
+use Rattle.accounting.proofs.PagesLaws.{group-low, own-fits, sums-adjustable, pages-adjusted}
 use borrow.Author.Needs.{needs}
 use Rattle.accounting.proofs.pages.adjust_pages.Statement.{statement}
 use Rattle.accounting.proofs.pages.adjust_pages.Tie as tie
@@ -9,7 +9,7 @@ own-requires : tie.Need-own-requires
 own-requires c κs = group-low _ _ _ _ (c .before .pre)
 
 add-next : tie.Need-add-next
-add-next c = omega (arith, c .own .ensures, own-small _ _ _ _ (c .before .before .pre))
+add-next c = omega (arith, c .own .ensures, own-fits _ _ _ _ (c .before .before .pre))
 
 sub-next : tie.Need-sub-next
 sub-next c = search needs

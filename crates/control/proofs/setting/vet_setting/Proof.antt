@@ -16,11 +16,11 @@ use Rattle.model.specs.Hierarchy as H
 use Rattle.model.specs.Settings.{settingController}
 use Rattle.model.specs.Rules.{mayWrite}
 use Rattle.model.specs.Calls.{writeSetting, checks, verdict}
+use Rattle.model.proofs.VetLaws.{may-write-parent}
 use Rattle.text.proofs.NameLaws.{is-setting, no-setting}
 use Rattle.tree.specs.Layout.{view}
-use Rattle.tree.proofs.KeptLaws.{live-row}
-use Rattle.control.proofs.VetLaws.{Passed, begun, not-barred, not-lacking, is-barred, is-lacking, is-rest}
-use Rattle.control.proofs.VetLaws.{may-write-parent, setting-on, parent-low}
+use Rattle.tree.proofs.KeptLaws.{live-row, parent-low}
+use Rattle.control.proofs.VetLaws.{Passed, begun, not-barred, not-lacking, is-barred, is-lacking, is-rest, setting-on}
 use Rattle.control.proofs.setting.vet_setting.Statement.{statement}
 use Rattle.control.proofs.setting.vet_setting.Tie as tie
 
@@ -94,7 +94,7 @@ may-found : (c : tie.After-may-write) → let n = named-at (c .before .before) i
     c .may-write .result ≡ mayWrite (tree-of n) (begin n .args .user) (parents (tree-of n) (group-of n))
 may-found c =
     let n = named-at (c .before .before) in
-    may-write-parent (tree-of n) (group-of n) (begin n .args .user) _ _ (c .before .parent .ensures) (c .may-write .ensures)
+    sym (may-write-parent (tree-of n) (begin n .args .user) (group-of n) _ _ _ (c .may-write .ensures) (c .before .parent .ensures) refl)
 
 may : (c : tie.Else4) → Past 5 (begin (named-at (on-at c)))
 unfolding checks

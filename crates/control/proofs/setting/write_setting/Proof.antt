@@ -5,7 +5,8 @@ use borrow.Author.Needs.{needs}
 use Rattle.model.specs.declared.Answer.the-variants.{Done}
 use Rattle.model.specs.Calls.{Call, writeSetting, verdict}
 use Rattle.tree.specs.Layout.{view}
-use Rattle.control.proofs.StoredLaws.{call-stays, settable, setting-done}
+use Rattle.tree.proofs.CallLaws.{call-stays}
+use Rattle.control.proofs.StoredLaws.{settable, setting-done}
 use Rattle.control.proofs.setting.write_setting.Statement.{statement}
 use Rattle.control.proofs.setting.write_setting.Tie as tie
 

@@ -8,7 +8,8 @@ use Rattle.tree.specs.Changes.{GroupRow}
 use Rattle.tree.specs.Counters.{HasParent}
 use Rattle.tree.specs.Layout.{view}
 use Rattle.control.specs.Flags.{setAt, leavesAt}
-use Rattle.control.proofs.StoredLaws.{call-stays, control-row, control-above, control-done}
+use Rattle.tree.proofs.CallLaws.{call-stays}
+use Rattle.control.proofs.StoredLaws.{control-row, control-above, control-done}
 use Rattle.control.proofs.ResetLaws.{ranged-kept}
 use Rattle.control.proofs.FlagLaws.{flag-asked}
 use Rattle.control.proofs.subtree.write_subtree_control.Statement.{statement}

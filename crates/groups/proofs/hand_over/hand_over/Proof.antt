@@ -3,7 +3,7 @@ use mathlib.Core.Path.{_≡_, sym, _∙_}
 use Rattle.model.specs.Calls.{handOver, verdict}
 use Rattle.model.specs.declared.Answer.the-variants.{Done}
 use Rattle.tree.specs.Layout.{view}
-use Rattle.tree.proofs.CallLaws.{call-refused, call-done}
+use Rattle.tree.proofs.CallLaws.{call-stays, call-done}
 use Rattle.groups.proofs.HandOverLaws.{hand-over-low, applied-hand-over}
 use borrow.Author.Needs.{needs}
 use Rattle.groups.proofs.hand_over.hand_over.Statement.{statement}
@@ -27,8 +27,8 @@ enum-told-2 c = search needs
 -- refused
 returns : tie.Need-returns
 returns c =
-    let e = c .before .before .vet-hand-over .ensures in
-    call-refused _ (c .before .before .before .before .pre) _ _ _ (c .enum-told2 .given .0 .0) (sym e ∙ c .enum-told2 .given .1) e
+    let v = c .before .before in
+    call-stays _ (v .before .before .pre) _ _ _ (v .vet-hand-over .ensures) (c .enum-told2 .given .1)
 
 set-owner-requires : tie.Need-set-owner-requires
 set-owner-requires c κs =

@@ -4,7 +4,7 @@ use mathlib.Core.Path.{_≡_, sym, _∙_}
 use Rattle.model.specs.Calls.{make, verdict}
 use Rattle.model.specs.declared.Answer.the-variants.{Done}
 use Rattle.tree.specs.Layout.{view}
-use Rattle.tree.proofs.CallLaws.{call-refused, call-done}
+use Rattle.tree.proofs.CallLaws.{call-stays, call-done}
 use Rattle.groups.proofs.MakeLaws.{makeable, applied-make}
 use borrow.Author.Needs.{needs}
 use Rattle.groups.proofs.make.make.Statement.{statement}
@@ -28,8 +28,8 @@ enum-told-2 c = search needs
 -- refused
 returns : tie.Need-returns
 returns c =
-    let e = c .before .before .vet-make .ensures in
-    call-refused _ (c .before .before .before .before .pre) _ _ _ (c .enum-told2 .given .0 .0) (sym e ∙ c .enum-told2 .given .1) e
+    let v = c .before .before in
+    call-stays _ (v .before .before .pre) _ _ _ (v .vet-make .ensures) (c .enum-told2 .given .1)
 
 depth-requires : tie.Need-depth-requires
 depth-requires c κs = makeable _ _ _ _ (accepted (c .before)) .above

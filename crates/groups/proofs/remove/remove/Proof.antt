@@ -5,7 +5,7 @@ use mathlib.Core.Path.{_≡_, sym, _∙_}
 use Rattle.model.specs.Calls.{remove, verdict}
 use Rattle.model.specs.declared.Answer.the-variants.{Done}
 use Rattle.tree.specs.Layout.{view}
-use Rattle.tree.proofs.CallLaws.{call-refused, call-done}
+use Rattle.tree.proofs.CallLaws.{call-stays, call-done}
 use Rattle.groups.proofs.RemoveLaws.{group-low, parent-found, pages-fit, applied-remove}
 use borrow.Author.Needs.{needs}
 use Rattle.groups.proofs.remove.remove.Statement.{statement}
@@ -39,8 +39,8 @@ enum-told-2 c = search needs
 -- refused
 returns : tie.Need-returns
 returns c =
-    let e = c .before .before .vet-remove .ensures in
-    call-refused _ (c .before .before .before .before .pre) _ _ _ (c .enum-told2 .given .0 .0) (sym e ∙ c .enum-told2 .given .1) e
+    let v = c .before .before in
+    call-stays _ (v .before .before .pre) _ _ _ (v .vet-remove .ensures) (c .enum-told2 .given .1)
 
 parent-requires : tie.Need-parent-requires
 parent-requires c κs = group-low _ (start (c .before) .pre) _ _ (accepted (c .before))

@@ -1,10 +1,9 @@
 -- `groups::remove::vet_remove` meets its contract: its tests in their order are the definitions' checks.
 -- Assumes nothing.
-use native.Mathlib.Omega.{arith}
 use borrow.Author.Tests.{not-false}
 use Rattle.model.specs.Calls.{checks, verdict}
 use Rattle.model.proofs.VetLaws.{tested, vets}
-use Rattle.groups.proofs.RemoveLaws.{parent-low}
+use Rattle.tree.proofs.KeptLaws.{parent-low}
 use borrow.Author.Needs.{needs}
 use Rattle.groups.proofs.remove.vet_remove.Statement.{statement}
 use Rattle.groups.proofs.remove.vet_remove.Tie as tie
@@ -28,7 +27,7 @@ parent-requires c κs = search needs
 may-write-requires : tie.Need-may-write-requires
 may-write-requires c κs =
     let l = c .before .before in
-    omega (arith, c .parent .ensures, parent-low _ (l .before .before .before .pre) _ (tested _ _ _ (l .is-live .ensures) (not-false _ (c .before .if2 .left))))
+    parent-low _ (l .before .before .before .pre) _ _ (tested _ _ _ (l .is-live .ensures) (not-false _ (c .before .if2 .left))) (c .parent .ensures)
 
 -- 13: the user may not write the parent
 returns-3 : tie.Need-returns-3

@@ -5,7 +5,7 @@ use borrow.Author.Needs.{needs}
 use Rattle.model.specs.Calls.{admit, verdict}
 use Rattle.model.specs.declared.Answer.the-variants.{Done}
 use Rattle.tree.specs.Layout.{view}
-use Rattle.tree.proofs.CallLaws.{call-refused}
+use Rattle.tree.proofs.CallLaws.{call-stays}
 use Rattle.processes.proofs.BirthLaws.{admit-vacant, admitted}
 use Rattle.processes.proofs.birth.admit.Statement.{statement}
 use Rattle.processes.proofs.birth.admit.Tie as tie
@@ -28,7 +28,7 @@ returns : tie.Need-returns
 returns c =
     let v = c .before .before in
     let s = v .before .before in
-    call-refused _ (s .pre) _ _ _ _ (sym (v .vet-admit .ensures _) ∙ c .enum-told2 .given .1) (v .vet-admit .ensures _)
+    call-stays _ (s .pre) _ _ _ (v .vet-admit .ensures _) (c .enum-told2 .given .1)
 
 enter-requires : tie.Need-enter-requires
 enter-requires c κs =

@@ -5,7 +5,7 @@ use borrow.Author.Needs.{needs}
 use Rattle.model.specs.Calls.{exit, verdict}
 use Rattle.model.specs.declared.Answer.the-variants.{Done}
 use Rattle.tree.specs.Layout.{view}
-use Rattle.tree.proofs.CallLaws.{call-refused}
+use Rattle.tree.proofs.CallLaws.{call-stays}
 use Rattle.processes.proofs.ExitLaws.{exit-standing, exit-done}
 use Rattle.processes.proofs.exit.exit.Statement.{statement}
 use Rattle.processes.proofs.exit.exit.Tie as tie
@@ -28,7 +28,7 @@ returns : tie.Need-returns
 returns c =
     let v = c .before .before in
     let s = v .before .before in
-    call-refused _ (s .pre) _ _ _ _ (sym (v .vet-exit .ensures) ∙ c .enum-told2 .given .1) (v .vet-exit .ensures)
+    call-stays _ (s .pre) _ _ _ (v .vet-exit .ensures) (c .enum-told2 .given .1)
 
 leave-requires : tie.Need-leave-requires
 leave-requires c κs =
