@@ -19,8 +19,8 @@ use tree::counter::Room;
 use tree::counter::first_full;
 use tree::layout::PROCESSES;
 use tree::layout::Tree;
-use tree::layout::is_process;
-use tree::layout::process_group;
+use tree::process::is_process;
+use tree::process::process_group;
 
 // The checks before room is asked for: 3 no such live process; 22 pages outside 1 to 1048576.
 fn vet_charge(tree: &Tree, process: ProcessId, pages: u64) -> Answer

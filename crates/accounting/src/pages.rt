@@ -3,9 +3,9 @@ ghost use Rattle.accounting.specs.Pages.{PagesAdjustable, PagesAdjusted}
 use model::GroupId;
 use model::Resource;
 use tree::counter::adjust_up;
+use tree::group::own;
+use tree::group::set_own;
 use tree::layout::Tree;
-use tree::layout::own;
-use tree::layout::set_own;
 
 // The pages of one charge or release are at most this.
 pub const LARGEST_CHARGE: u64 = 1048576;

@@ -9,10 +9,10 @@ use super::pages::adjust_pages;
 use model::Answer;
 use model::Errno;
 use model::GroupId;
+use tree::group::is_live;
+use tree::group::own;
 use tree::layout::GROUPS;
 use tree::layout::Tree;
-use tree::layout::is_live;
-use tree::layout::own;
 
 // 22 the group's number out of range, or pages outside 1 to 1048576; 2 not live; 34 more than its own pages.
 fn vet_release(tree: &Tree, group: GroupId, pages: u64) -> Answer

@@ -11,8 +11,8 @@ use model::Controller;
 use model::GroupId;
 use text::control::Wish;
 use text::control::Wishes;
+use tree::group::has;
 use tree::layout::Tree;
-use tree::layout::has;
 use tree::rule::held_by_child;
 use tree::rule::is_available;
 

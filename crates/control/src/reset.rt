@@ -8,14 +8,14 @@ use super::flags::Flags;
 use model::GroupId;
 use model::Limit;
 use model::Resource;
-use tree::layout::DEFAULT_PERIOD;
-use tree::layout::DEFAULT_WEIGHT;
+use tree::group::set_controls;
 use tree::layout::GROUPS;
 use tree::layout::Tree;
-use tree::layout::set_controls;
-use tree::layout::set_cpu;
-use tree::layout::set_limit;
 use tree::rule::is_child;
+use tree::setting::DEFAULT_PERIOD;
+use tree::setting::DEFAULT_WEIGHT;
+use tree::setting::set_cpu;
+use tree::setting::set_limit;
 
 // cpu.weight and cpu.max of a group at their defaults, where cpu is gone.
 fn reset_cpu(t: &mut Tree, k: GroupId, gone: bool)

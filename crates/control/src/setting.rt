@@ -24,18 +24,18 @@ use text::name::setting_named;
 use text::value::Reading;
 use text::value::read_value;
 use text::value::to_pages;
-use tree::counter::setting_controller;
+use tree::group::is_live;
+use tree::group::parent;
 use tree::layout::GROUPS;
 use tree::layout::Tree;
-use tree::layout::is_live;
-use tree::layout::parent;
-use tree::layout::period;
-use tree::layout::quota;
-use tree::layout::set_cpu;
-use tree::layout::set_limit;
-use tree::layout::weight;
 use tree::rule::is_on;
 use tree::rule::may_write;
+use tree::setting::period;
+use tree::setting::quota;
+use tree::setting::set_cpu;
+use tree::setting::set_limit;
+use tree::setting::setting_controller;
+use tree::setting::weight;
 
 // What a line gives the setting of that name; malformed where there is none.
 fn value_for(file: &[u8], line: &[u8]) -> Reading

@@ -17,9 +17,9 @@ use text::control::Wishes;
 use text::control::asks;
 use text::control::has_bad_word;
 use text::line::is_too_long;
+use tree::group::is_live;
 use tree::layout::GROUPS;
 use tree::layout::Tree;
-use tree::layout::is_live;
 use tree::rule::has_process;
 use tree::rule::may_write;
 

@@ -16,9 +16,9 @@ use model::ProcessId;
 use text::write::put_byte;
 use text::write::put_number;
 use text::write::put_text;
+use tree::group::has;
 use tree::layout::PROCESSES;
 use tree::layout::Tree;
-use tree::layout::has;
 use tree::rule::is_available;
 use tree::rule::stands_in;
 

@@ -12,10 +12,10 @@ use model::ProcessId;
 use text::write::put_byte;
 use text::write::put_number;
 use text::write::put_text;
+use tree::group::depth;
+use tree::group::parent;
 use tree::layout::Tree;
-use tree::layout::depth;
-use tree::layout::parent;
-use tree::layout::process_group;
+use tree::process::process_group;
 
 // The path of a group so deep: the path of its parent, and then its own number.
 fn put_path(t: &Tree, g: GroupId, deep: u64, out: &mut [u8], at: usize) -> usize

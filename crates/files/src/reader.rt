@@ -23,14 +23,14 @@ use model::ReadAnswer;
 use text::name::FileName;
 use text::name::file_named;
 use text::write::deliver;
-use tree::counter::controller_of;
-use tree::counter::setting_controller;
+use tree::group::is_live;
 use tree::layout::GROUPS;
 use tree::layout::PROCESSES;
 use tree::layout::Tree;
-use tree::layout::is_live;
-use tree::layout::is_process;
+use tree::process::is_process;
 use tree::rule::is_on;
+use tree::setting::controller_of;
+use tree::setting::setting_controller;
 
 // The longest text of a file: 257 process numbers, each a line of four bytes at most.
 const LONGEST_TEXT: usize = 1028;

@@ -22,12 +22,12 @@ use text::write::put_byte;
 use text::write::put_limit;
 use text::write::put_number;
 use text::write::put_text;
+use tree::group::sum;
 use tree::layout::Tree;
-use tree::layout::limit;
-use tree::layout::period;
-use tree::layout::quota;
-use tree::layout::sum;
-use tree::layout::weight;
+use tree::setting::limit;
+use tree::setting::period;
+use tree::setting::quota;
+use tree::setting::weight;
 
 const PAGE_BYTES: u64 = 4096;
 

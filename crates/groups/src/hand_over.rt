@@ -7,10 +7,10 @@ ghost use Rattle.tree.specs.Calling.{Calling};
 use model::Answer;
 use model::Errno;
 use model::GroupId;
+use tree::group::is_live;
+use tree::group::set_owner;
 use tree::layout::GROUPS;
 use tree::layout::Tree;
-use tree::layout::is_live;
-use tree::layout::set_owner;
 
 // The checks, in the paper's order.
 fn vet_hand_over(t: &Tree, user: u32, g: GroupId, owner: u32) -> Answer

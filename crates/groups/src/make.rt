@@ -7,12 +7,12 @@ ghost use Rattle.tree.specs.Calling.{Calling};
 use model::Answer;
 use model::Errno;
 use model::GroupId;
+use tree::group::depth;
+use tree::group::is_live;
+use tree::group::put_group;
 use tree::layout::DEEPEST;
 use tree::layout::GROUPS;
 use tree::layout::Tree;
-use tree::layout::depth;
-use tree::layout::is_live;
-use tree::layout::put_group;
 use tree::rule::may_write;
 
 // The checks, in the paper's order.

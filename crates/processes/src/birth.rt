@@ -20,9 +20,9 @@ use tree::counter::Room;
 use tree::counter::first_full;
 use tree::layout::PROCESSES;
 use tree::layout::Tree;
-use tree::layout::is_process;
-use tree::layout::process_group;
-use tree::layout::process_user;
+use tree::process::is_process;
+use tree::process::process_group;
+use tree::process::process_user;
 
 // 22 the number outside 1 to 256; 17 live. Any user may be admitted.
 fn vet_admit(tree: &Tree, process: ProcessId) -> Answer

@@ -10,7 +10,7 @@ use model::Errno;
 use model::ProcessId;
 use tree::layout::PROCESSES;
 use tree::layout::Tree;
-use tree::layout::is_process;
+use tree::process::is_process;
 
 // 3 no such live process.
 fn vet_exit(tree: &Tree, process: ProcessId) -> Answer

@@ -20,14 +20,14 @@ use text::number::Number;
 use text::number::read_number_line;
 use tree::chain::chain_of;
 use tree::chain::common_ancestor;
+use tree::group::has;
+use tree::group::is_live;
 use tree::layout::GROUPS;
 use tree::layout::PROCESSES;
 use tree::layout::Tree;
-use tree::layout::has;
-use tree::layout::is_live;
-use tree::layout::is_process;
-use tree::layout::process_group;
-use tree::layout::process_user;
+use tree::process::is_process;
+use tree::process::process_group;
+use tree::process::process_user;
 use tree::rule::may_write;
 
 // The live process that a line names, or what the line is refused with.

@@ -7,10 +7,10 @@ use model::ProcessId;
 use model::Resource;
 use tree::counter::adjust_up;
 use tree::layout::Tree;
-use tree::layout::clear_process;
-use tree::layout::process_group;
-use tree::layout::process_user;
-use tree::layout::put_process;
+use tree::process::clear_process;
+use tree::process::process_group;
+use tree::process::process_user;
+use tree::process::put_process;
 
 // A free number becomes a process of a group.
 pub fn enter(tree: &mut Tree, process: ProcessId, group: GroupId, user: u64)

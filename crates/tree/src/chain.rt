@@ -4,9 +4,9 @@ ghost use Rattle.model.specs.Hierarchy.{firstCommon};
 ghost use Rattle.tree.specs.Layout.{view};
 ghost use Rattle.tree.specs.Kept.{KeptAt};
 ghost use Rattle.tree.specs.Counters.{Whole, ChainOf, listed};
+use super::group::parent;
 use super::layout::CHAIN;
 use super::layout::Tree;
-use super::layout::parent;
 use model::GroupId;
 
 // The first `len` numbers of `at`.

@@ -2,49 +2,26 @@
 ghost use mathlib.Core.Path.{_≡_};
 ghost use Prim.Native.Nat.{_+_, _-_, _<_, _≤_};
 ghost use Rattle.model.specs.Sizes.{groups};
-ghost use Rattle.model.specs.Tree.{controllerOf};
-ghost use Rattle.model.specs.Settings.{settingController};
 ghost use Rattle.model.specs.Rooms.{over, rootLimit, actingLimit, consult};
 ghost use Rattle.tree.specs.Layout.{put, view, sumField, sumIn};
 ghost use Rattle.tree.specs.Changes.{Adjusted};
 ghost use Rattle.tree.specs.Kept.{KeptAt};
 ghost use Rattle.tree.specs.Counters.{Whole, listed, Adjustable, Searchable, roomOf};
 use super::chain::Chain;
+use super::group::parent;
+use super::group::set_sum;
+use super::group::sum;
 use super::layout::Tree;
-use super::layout::limit;
-use super::layout::machine;
-use super::layout::parent;
-use super::layout::set_sum;
-use super::layout::sum;
-use model::Controller;
+use super::row::machine;
+use super::setting::limit;
 use model::GroupId;
 use model::Limit;
 use model::Resource;
-use model::Setting;
 
 // Room, after so many groups were consulted; or the first group without room, and how many were consulted with it.
 pub enum Room {
     Fits(u64),
     Full(GroupId, u64),
-}
-
-pub fn controller_of(r: Resource) -> Controller
-    ensures { λ c. ⌜ c ≡ controllerOf r ⌝ }
-{
-    match r {
-        Resource::Pages => Controller::Memory,
-        Resource::Processes => Controller::Pids,
-    }
-}
-
-pub fn setting_controller(s: Setting) -> Controller
-    ensures { λ c. ⌜ c ≡ settingController s ⌝ }
-{
-    match s {
-        Setting::CpuWeight => Controller::Cpu,
-        Setting::CpuMax => Controller::Cpu,
-        Setting::Max(r) => controller_of(r),
-    }
 }
 
 // Whether n passes a limit.

@@ -1,13 +1,13 @@
 // A fresh tree: the root alone, with no process and no pages.
 ghost use Rattle.tree.specs.Kept.{Fresh};
-use super::layout::DEFAULT_PERIOD;
-use super::layout::DEFAULT_WEIGHT;
-use super::layout::LIVE;
-use super::layout::MACHINE;
-use super::layout::PERIOD;
 use super::layout::Tree;
-use super::layout::WEIGHT;
 use super::layout::WORDS;
+use super::row::LIVE;
+use super::row::MACHINE;
+use super::row::PERIOD;
+use super::row::WEIGHT;
+use super::setting::DEFAULT_PERIOD;
+use super::setting::DEFAULT_WEIGHT;
 
 // The largest machine, in pages; a larger figure counts as this.
 pub const LARGEST_MACHINE: u64 = 1099511627776;

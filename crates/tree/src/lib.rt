@@ -1,6 +1,11 @@
-// The tree in words, lent to every call and changed in place. Only `layout` knows where a word is; `chain` and `counter` walk
-// up the hierarchy. What the calls promise of the tree is stated by `view` in specs/, and `Kept` is the invariant.
-pub mod layout; // sizes, getters and setters
+// The tree in words, lent to every call and changed in place. `row` says where a word is, and `group`, `setting` and `process`
+// read and store; `chain` and `counter` walk up the hierarchy. What the calls promise of the tree is stated by `view` in
+// specs/, and `Kept` is the invariant.
+pub mod layout; // the sizes, and the type of a tree
+mod row; // the places in a row, and the meaning of a word
+pub mod group; // what is kept of a group
+pub mod setting; // its settings, their controllers and defaults
+pub mod process; // what is kept of a process
 pub mod fresh; // a fresh tree
 pub mod chain; // chains, by value, and the common ancestor
 pub mod counter; // running sums and room along a chain

@@ -10,7 +10,7 @@ use Rattle.text.proofs.WriteLaws.{wrote-then, wrote-as}
 use Rattle.text.proofs.write.put_byte.Reads as put-byte-reads
 use Rattle.text.proofs.write.put_number.Reads as put-number-reads
 use Rattle.tree.specs.Layout.{view}
-use Rattle.tree.proofs.layout.parent.Reads as parent-reads
+use Rattle.tree.proofs.group.parent.Reads as parent-reads
 use Rattle.files.proofs.WrittenLaws.{wrote-nothing}
 use Rattle.files.proofs.PathLaws.{path-none, path-text, path-fits, path-above}
 use Rattle.files.proofs.path.+put_path.{statement}
