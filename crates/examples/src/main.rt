@@ -1,0 +1,63 @@
+// The evenings that document 01 works through, and what is right where it lists a slip: every call on a line, with its reply
+// after the colon. Nothing is judged here; what is printed is held to `stdout`, which is to be read beside the paper.
+mod say; // words and numbers on standard output
+mod tree_calls; // groups, processes and pages
+mod line_calls; // lines written to files
+mod reply_calls; // texts read into a buffer
+mod often; // calls that evenings make often
+mod charges; // P1 to P5, and the groups consulted
+mod settings; // P6 to P8
+mod hierarchy; // P9, P10, and depths
+mod texts; // P11, whole replies, and bad words
+mod slips; // what is right where a slip looks right
+
+use say::heading;
+
+// The cases marked P.
+fn marked() {
+    heading(b"P1 to P5: a charge goes up the chain");
+    charges::p1_to_p5();
+    heading(b"P6 and P7: memory.max is rounded up to a whole page, and has a largest figure");
+    settings::p6_p7();
+    heading(b"P8: a weight is one figure from 1 to 10000");
+    settings::p8();
+    heading(b"P9: the last word on a controller counts");
+    hierarchy::p9();
+    heading(b"P10: a move from C10, group 5, to C00, group 4, asks for their common ancestor");
+    hierarchy::p10();
+    heading(b"P11: the membership line of a process");
+    texts::p11();
+}
+
+// The cases that are not, and what charge, fork and the question about a line tell.
+fn others() {
+    heading(b"Whole reply: the text at the front of the buffer, or nothing");
+    texts::whole_replies();
+    heading(b"Make under depth 7 passes, under depth 8 is 11");
+    hierarchy::depths();
+    heading(b"Charge and fork tell the first group without room, and the groups consulted");
+    charges::consulted();
+    heading(b"The first word that a control line may not contain, or the empty part at its end");
+    texts::first_bad_words();
+}
+
+// The slips that look right, but for the common ancestor, which is P10.
+fn right() {
+    heading(b"A pids limit stops forks, and no move");
+    slips::pids_limit_and_move();
+    heading(b"Pages stay where they were charged when a process moves");
+    slips::pages_stay();
+    heading(b"Who owns a group alone may not raise its memory.max");
+    slips::limit_of_the_owner();
+    heading(b"A charge that is refused further up leaves nothing below");
+    slips::nothing_halfway();
+}
+
+fn main() {
+    say::text(
+        b"A call, and after the colon its reply: 0 for success, else the number of the refusal.\n",
+    );
+    marked();
+    others();
+    right();
+}
