@@ -1,21 +1,21 @@
--- Own pages and running sums changed together: usage after n pages more and m less in one group, and that the sums above
--- it follow. Once for what comes and what goes. Assumes nothing.
+-- Own pages and running sums changed together: after n pages more and m less in one group the sums above it are the usage.
+-- Once for what comes and what goes. Assumes nothing.
 use Prim.Native.Nat.{ℕ, _+_, _-_, _≤_, _<_}
 use native.Mathlib.Omega.{arith}
-use mathlib.Core.Bool.{Bool, true, false}
+use mathlib.Core.Bool.{Bool, true}
 use mathlib.Core.List.{List}
 use mathlib.Core.Path.{_≡_, refl, ap, sym, _∙_}
-use Rattle.model.specs.Functions.{pick, upd, weigh}
+use Rattle.model.specs.Functions.{upd, weigh}
 use Rattle.model.specs.Sizes.{groups, largestCharge}
 use Rattle.model.specs.Tree.{Core, Group, withOwn, cores, lives, parents, places}
-use Rattle.model.specs.Hierarchy.{inside, ownPages, usage, amount}
+use Rattle.model.specs.Hierarchy.{inside, usage, amount}
 use Rattle.model.specs.Calls.{Call, verdict}
 use Rattle.model.specs.Effects.{effect}
 use Rattle.model.specs.declared.Resource.{Resource}
 use Rattle.model.specs.declared.Resource.the-variants.{Pages, Processes}
 use Rattle.model.specs.declared.Answer.the-variants.{Done}
-use Rattle.model.proofs.FunctionLaws.{upd-keeps, upd-map, weigh-yes, weigh-add}
-use Rattle.model.proofs.AmountLaws.{usage-change, population-same, own-within-usage}
+use Rattle.model.proofs.FunctionLaws.{upd-keeps, upd-map}
+use Rattle.model.proofs.AmountLaws.{usage-after-adjust, population-same, own-within-usage}
 use Rattle.tree.specs.Layout.{view, sumIn}
 use Rattle.tree.specs.Changes.{Wrote, Adjusted, ownSet}
 use Rattle.tree.specs.Counters.{Adjustable}
@@ -23,27 +23,9 @@ use Rattle.tree.specs.Kept.{Kept}
 use Rattle.tree.specs.Calling.{Applied}
 use Rattle.tree.proofs.KeptLaws.{own-small, adjustable}
 use Rattle.tree.proofs.AdjustLaws.{pages-apart}
+use Rattle.tree.proofs.RoomCallLaws.{sum-after-adjust}
 use Rattle.tree.proofs.CallLaws.{applied-as}
 use Rattle.accounting.specs.Pages.{pagesSet, PagesAdjustable, PagesAdjusted}
-
--- Usage after one group's own pages changed.
-usage-after-adjust : (s : ℕ → Core) (g n m : ℕ) → g < groups → s g .live ≡ true → m ≤ s g .own + n → (a : ℕ)
-    → usage (upd s g (withOwn (s g .own + n - m) (s g))) a + weigh (inside (λ k. s k .parent) a g) m
-    ≡ usage s a + weigh (inside (λ k. s k .parent) a g) n
-usage-after-adjust s g n m low l e a =
-    let b : Bool = inside (λ k. s k .parent) a g in
-    let v : Core = withOwn (s g .own + n - m) (s g) in
-    let x : ownPages v + m ≡ ownPages (s g) + n =
-    omega (arith, weigh-yes (s g .live) (s g .own) l, weigh-yes (s g .live) (s g .own + n - m) l) in
-    let y : weigh b (ownPages v) + weigh b m ≡ weigh b (ownPages (s g)) + weigh b n =
-    sym (weigh-add b _ m) ∙ ap (weigh b) x ∙ weigh-add b _ n in
-    omega (arith, usage-change s g v low refl a)
-
--- a sum with n more and m less on the chain, where the usage inside has them
-sum-follows : (b : Bool) (n m s u : ℕ) → u + weigh b m ≡ s + weigh b n → pick b (s + n - m) s ≡ u
-unfolding weigh
-sum-follows true n m s u e = omega arith
-sum-follows false n m s u e = omega arith
 
 module _ (xs : List ℕ) (g n m : ℕ) (p : PagesAdjustable xs g n m) where
   pub group-low : g < groups
@@ -71,8 +53,9 @@ module _ (xs : List ℕ) (g n m : ℕ) (p : PagesAdjustable xs g n m) where
         let u : usage after a + weigh b m ≡ sumIn xs Pages a + weigh b n =
         rw (p .home .kept .sums Pages a l)
         (usage-after-adjust s g n m group-low (p .home .live) (omega (arith, p .enough)) a) in
-        wrote .sums Pages a ∙ adjusted .sums a
-        ∙ sum-follows b n m (sumIn xs Pages a) (usage after a) u
+        let same : sumIn ys Pages a ≡ usage after a =
+        omega (arith, sum-after-adjust xs ys g Pages n m adjusted (sums-adjustable n m (p .few) (p .enough) .enough) a, u) in
+        wrote .sums Pages a ∙ same
         ∙ ap (λ (k : ℕ → Core). usage k a) (sym (upd-map (λ (x : Group). x .core) (view xs .group) g _))
     sums-after Processes a l =
         wrote .sums Processes a ∙ adjusted .other Processes (λ e. pages-apart (sym e)) a

@@ -26,10 +26,10 @@ use Rattle.tree.specs.Kept.{Kept}
 use Rattle.tree.specs.Calling.{Calling}
 use Rattle.tree.proofs.KeptLaws.{live-row}
 use Rattle.tree.proofs.CallLaws.{call-done, applied-wrote}
-use Rattle.text.specs.Value.{readingOf}
+use Rattle.text.specs.Value.{readingOf, told}
 use Rattle.text.specs.declared.value.Reading.{Reading}
 use Rattle.control.specs.Stores.{changedAt}
-use Rattle.control.specs.Values.{told, Settable}
+use Rattle.control.specs.Values.{Settable}
 use Rattle.control.proofs.WroteLaws.{wrote-as}
 use Rattle.control.proofs.ValueLaws.{told-value}
 

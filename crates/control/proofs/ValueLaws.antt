@@ -14,7 +14,7 @@ use Rattle.model.specs.Calls.{settingValue, lineValue}
 use Rattle.model.specs.Names.{settingNamed}
 use Rattle.model.specs.Text.{lineWords}
 use Rattle.model.specs.Tree.{Group, CpuSettings, withLimit, withSettings}
-use Rattle.model.specs.Settings.{SettingValue, weight, bandwidth, maximum, valueOf, inRange, put, shown}
+use Rattle.model.specs.Settings.{SettingValue, weight, valueOf, inRange, put, shown}
 use Rattle.model.specs.Settings.{figureIn, periodIn, largest, toAmount, mapLimit}
 use Rattle.model.specs.Effects.{written}
 use Rattle.model.specs.declared.Resource.{Resource}
@@ -29,10 +29,10 @@ use Rattle.model.proofs.FunctionLaws.{clash, and-left, and-right}
 use Rattle.model.proofs.CheckLaws.{says-first}
 use Rattle.tree.specs.Layout.{view}
 use Rattle.tree.specs.Changes.{GroupRow, Storable}
-use Rattle.text.specs.Value.{reading, readingOf}
+use Rattle.text.specs.Value.{reading, told, readingOf}
 use Rattle.text.specs.declared.value.Reading.{Reading}
-use Rattle.text.proofs.ReadingLaws.{is-value, is-malformed, is-out-of-range}
-use Rattle.control.specs.Values.{told, Settable, valueChecks}
+use Rattle.text.proofs.ReadingLaws.{told-reading, is-value, is-malformed, is-out-of-range}
+use Rattle.control.specs.Values.{Settable, valueChecks}
 
 -- ---- the checks of a value
 
@@ -61,13 +61,7 @@ module _ (file line : List ℕ) where
 -- a value in its range is told
 pub told-value : (o : Option SettingValue) → passes o inRange ≡ true → told (readingOf o) ≡ o
 told-value none h = clash false h refl
-told-value (some v) h = rw h (go v)
-  where
-    go : (v : SettingValue) → told (reading v) ≡ some v
-    go (weight n) = refl
-    go (bandwidth q none) = refl
-    go (bandwidth q (some p)) = refl
-    go (maximum r l) = refl
+told-value (some v) h = rw h (told-reading v)
 
 -- ---- what can be stored
 

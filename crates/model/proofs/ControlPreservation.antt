@@ -4,7 +4,7 @@ use mathlib.Core.Bool.{Bool, true, false, not, _&&_}
 use mathlib.Core.Logic.{_≢_}
 use mathlib.Core.Path.{_≡_, refl, ap, sym, _∙_, fun-ext}
 use lib.Dec.{eqb}
-use borrow.Author.Tests.{eqb-true, eqb-false, eq-eqb, ne-eqb}
+use borrow.Author.Tests.{eqb-true, eqb-false, eq-eqb, ne-eqb, not-true}
 use Rattle.model.specs.Functions.{upd}
 use Rattle.model.specs.Tree.{Tree, Core, Group, at, Controls, Settings, settingsOf, withSettings, withSet, cores, lives, parents, sets, settingsAt, places}
 use Rattle.model.specs.Hierarchy.{childOf, ownPages}
@@ -12,7 +12,7 @@ use Rattle.model.specs.Settings.{AtDefault, reset}
 use Rattle.model.specs.WellFormed.{Defaults, WellFormed}
 use Rattle.model.specs.Effects.{resetChild, controlled}
 use Rattle.model.specs.declared.Controller.{Controller}
-use Rattle.model.proofs.FunctionLaws.{split, whether, clash, and-left, and-right, not-true, upd-same, upd-other, upd-map, upd-keeps}
+use Rattle.model.proofs.FunctionLaws.{split, whether, clash, and-left, and-right, upd-same, upd-other, upd-map, upd-keeps}
 use Rattle.model.proofs.AmountLaws.{usage-same}
 use Rattle.model.proofs.RuleLaws.{sound-eq, placed-eq, top-down-eq, defaults-eq, ranges-eq, quiet-eq, top-down-after-control, quiet-after-set, on-other}
 use Rattle.model.proofs.SettingLaws.{default-of-reset, default-after-reset, range-after-reset}

@@ -7,7 +7,7 @@ use mathlib.Core.Logic.{_≢_}
 use mathlib.Core.Option.{Option, none, some}
 use mathlib.Core.Path.{_≡_, refl, ap, sym, _∙_}
 use lib.Dec.{eqb}
-use borrow.Author.Tests.{eqb-false, eq-eqb, ne-eqb, leb-false, ltb-false}
+use borrow.Author.Tests.{eqb-false, eq-eqb, ne-eqb, leb-false, ltb-false, not-false}
 use Rattle.model.specs.Functions.{upd, passes, known}
 use Rattle.model.specs.Sizes.{groups, processes}
 use Rattle.model.specs.Checks.{Pass}
@@ -28,7 +28,7 @@ use Rattle.model.specs.declared.Setting.{Setting}
 use Rattle.model.specs.declared.Errno.{Errno}
 use Rattle.model.specs.declared.Answer.{Answer}
 use Rattle.model.specs.declared.Answer.the-variants.{Done, Refused}
-use Rattle.model.proofs.FunctionLaws.{split, clash, and-false, not-false, upd-keeps, any-none, weigh-yes}
+use Rattle.model.proofs.FunctionLaws.{split, clash, and-false, upd-keeps, any-none, weigh-yes}
 use Rattle.model.proofs.CheckLaws.{first-pass}
 use Rattle.model.proofs.ChainLaws.{root-inside}
 use Rattle.model.proofs.AmountLaws.{place-live, usage-same, usage-after-charge, usage-after-release}

@@ -6,19 +6,10 @@ use mathlib.Core.Path.{_≡_, refl, ap, sym, _∙_}
 use native.Mathlib.Omega.{arith}
 use Rattle.model.specs.Functions.{pick, known, passes}
 use Rattle.model.specs.Settings.{SettingValue, weight, bandwidth, maximum, inRange}
-use Rattle.text.specs.Value.{reading, readingOf}
+use Rattle.text.specs.Value.{reading, told, readingOf}
 use Rattle.text.specs.declared.value.Reading.{Reading}
 
--- the value that an answer tells
-abbrev told : Reading → Option SettingValue
-told (Reading.Weight n) = some (weight n)
-told (Reading.Quota q) = some (bandwidth q none)
-told (Reading.Bandwidth q p) = some (bandwidth q (some p))
-told (Reading.Max r l) = some (maximum r l)
-told Reading.Malformed = none
-told Reading.OutOfRange = none
-
-told-reading : (v : SettingValue) → told (reading v) ≡ some v
+pub told-reading : (v : SettingValue) → told (reading v) ≡ some v
 told-reading (weight n) = refl
 told-reading (bandwidth q none) = refl
 told-reading (bandwidth q (some p)) = refl

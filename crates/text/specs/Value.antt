@@ -24,6 +24,15 @@ reading (bandwidth q none) = Reading.Quota q
 reading (bandwidth q (some p)) = Reading.Bandwidth q p
 reading (maximum r l) = Reading.Max r l
 
+-- the value that an answer tells
+abbrev pub told : Reading → Option SettingValue
+told (Reading.Weight n) = some (weight n)
+told (Reading.Quota q) = some (bandwidth q none)
+told (Reading.Bandwidth q p) = some (bandwidth q (some p))
+told (Reading.Max r l) = some (maximum r l)
+told Reading.Malformed = none
+told Reading.OutOfRange = none
+
 -- "22 malformed (any word of it); 34 range"
 abbrev pub readingOf : Option SettingValue → Reading
 readingOf none = Reading.Malformed

@@ -15,22 +15,18 @@ use Rattle.model.specs.declared.Resource.{Resource}
 use Rattle.model.specs.declared.Resource.the-variants.{Pages, Processes}
 use Rattle.model.proofs.FunctionLaws.{split, whether, clash, upd-same, upd-other}
 use Rattle.model.proofs.ChainLaws.{tree-ind, inside-self, inside-up, inside-cases, inside-root, inside-trans}
-use Rattle.tree.specs.Layout.{row, words, word, put, sumField, sumIn, view}
+use Rattle.tree.specs.Layout.{words, word, put, sumField, sumIn, view}
 use Rattle.tree.specs.Changes.{Adjusted}
 use Rattle.tree.specs.Counters.{Adjustable}
-use Rattle.tree.proofs.RowLaws.{RowPut, row-start, row-put, word-kept, view-after-sum}
+use Rattle.tree.proofs.RowLaws.{RowPut, row-start, row-put, sum-low, word-kept, view-after-sum}
 
 pub pages-apart : Pages ≢ Processes
 pages-apart e = let z : _≡_ {A = ℕ} 0 1 = cc in omega arith
 
 -- The words after one sum was stored.
 module _ (xs ys : List ℕ) (r : Resource) (g v : ℕ) (l : length xs ≡ words) (low : g < groups) (e : ys ≡ put xs g (sumField r) v) where
-  field-low : (q : Resource) → sumField q < row
-  field-low Pages = omega arith
-  field-low Processes = omega arith
-
   stored : RowPut xs ys g (upd (word xs g) (sumField r) v)
-  stored = row-put xs xs ys g (word xs g) (sumField r) v (omega arith) (field-low r) (row-start xs g l) e
+  stored = row-put xs xs ys g (word xs g) (sumField r) v (omega arith) (sum-low r) (row-start xs g l) e
 
   not-below : (q : Resource) (k : ℕ) → k < sumField Pages → k ≢ sumField q
   not-below Pages k h d = omega arith
@@ -56,13 +52,13 @@ module _ (xs ys : List ℕ) (r : Resource) (g v : ℕ) (l : length xs ≡ words)
       (λ k h _. upd-other (word xs g) (sumField r) v k (not-above r k h))
 
   sum-here : sumIn ys r g ≡ v
-  sum-here = stored .here (sumField r) (field-low r) ∙ upd-same (word xs g) (sumField r) v
+  sum-here = stored .here (sumField r) (sum-low r) ∙ upd-same (word xs g) (sumField r) v
 
   sum-elsewhere : (a : ℕ) → a ≢ g → sumIn ys r a ≡ sumIn xs r a
-  sum-elsewhere a ne = stored .other a (sumField r) ne (field-low r)
+  sum-elsewhere a ne = stored .other a (sumField r) ne (sum-low r)
 
   sum-of-other : (q : Resource) → q ≢ r → (a : ℕ) → sumIn ys q a ≡ sumIn xs q a
-  sum-of-other q ne a = word-kept xs ys g _ stored a (sumField q) (field-low q) (upd-other (word xs g) (sumField r) v (sumField q) (sums-apart q ne))
+  sum-of-other q ne a = word-kept xs ys g _ stored a (sumField q) (sum-low q) (upd-other (word xs g) (sumField r) v (sumField q) (sums-apart q ne))
 
 -- In the loop: the groups from `here` up are as they were, and those of the chain of g below it are adjusted.
 pub record Rising (xs : List ℕ) (r : Resource) (g n m : ℕ) (ys : List ℕ) (here : ℕ) : Type 0 where

@@ -1,16 +1,16 @@
 -- Words that are all 0 but for the root's row stand for a fresh tree and keep the invariant. Assumes nothing.
-use Prim.Native.Nat.{ℕ, _+_, _*_, _≤_, _<_, min}
+use Prim.Native.Nat.{ℕ, _+_, _*_, _<_, min}
 use native.Mathlib.Omega.{arith}
 use native.Mathlib.Decide.{decLt}
-use mathlib.Core.Bool.{Bool, true, false}
+use mathlib.Core.Bool.{true, false}
 use mathlib.Core.List.{List, [], _∷_}
 use mathlib.Core.Logic.{_≢_, inl}
-use mathlib.Core.Path.{_≡_, refl, ap, ap₂, sym, _∙_, fun-ext, subst}
+use mathlib.Core.Path.{_≡_, refl, ap, sym, _∙_, fun-ext, subst}
 use lib.ListN.{length, getD, set, replicate, length-replicate, getD-replicate, List·getD-eq-default}
 use Rattle.model.specs.Functions.{upd}
-use Rattle.model.specs.Sizes.{groups, processes, largestMachine}
-use Rattle.model.specs.Tree.{Tree, noGroup, noProcess, newGroup, defaultCpu, cores, lives, places}
-use Rattle.model.specs.Hierarchy.{usage, population, held, amount}
+use Rattle.model.specs.Sizes.{processes, largestMachine}
+use Rattle.model.specs.Tree.{Tree, noGroup, noProcess, newGroup, defaultCpu, cores, places}
+use Rattle.model.specs.Hierarchy.{usage, population, amount}
 use Rattle.model.specs.Effects.{fresh}
 use Rattle.model.specs.WellFormed.{WellFormed}
 use Rattle.model.specs.declared.Resource.{Resource}
@@ -22,9 +22,9 @@ use Rattle.model.proofs.FunctionLaws.{whether, upd-same, upd-other, upd-map}
 use Rattle.model.proofs.HeldLaws.{held-none}
 use Rattle.model.proofs.AmountLaws.{usage-fresh}
 use Rattle.model.proofs.Reached.{well-formed-fresh}
-use Rattle.tree.specs.Layout.{row, words, word, put, putAll, limitIn, flagIn, groupRow, processRow, view, sumIn, sumField, liveField, weightField, periodField, machineField, placeField, userField, limitField, setField}
-use Rattle.tree.specs.Kept.{Kept, Fresh}
-use Rattle.tree.proofs.RowLaws.{RowPut, row-start, row-put-all, updAll, group-ext, process-ext}
+use Rattle.tree.specs.Layout.{row, words, word, putAll, limitIn, flagIn, groupRow, processRow, view, sumIn, sumField, liveField, weightField, periodField, machineField, limitField, setField}
+use Rattle.tree.specs.Kept.{Fresh}
+use Rattle.tree.proofs.RowLaws.{RowPut, row-start, row-put-all, updAll, group-ext, process-ext, sum-low}
 
 -- no amount in a fresh tree
 amount-fresh : (m : ℕ) (r : Resource) (a : ℕ) → amount (cores (fresh m)) (places (fresh m)) r a ≡ 0
@@ -116,12 +116,8 @@ module _ (zs : List ℕ) (m : ℕ) (l : length zs ≡ words) (z : (k : ℕ) → 
             };
       }
     where
-      low : (r : Resource) → sumField r < row
-      low Pages = omega arith
-      low Processes = omega arith
-
       sum-zero : (r : Resource) (g : ℕ) → sumIn ys r g ≡ 0
-      sum-zero r g = whether g 0 (λ e. rw e (rows .here (sumField r) (low r) ∙ root-sum m r)) (λ ne. empty g (sumField r) ne (low r))
+      sum-zero r g = whether g 0 (λ e. rw e (rows .here (sumField r) (sum-low r) ∙ root-sum m r)) (λ ne. empty g (sumField r) ne (sum-low r))
 
 -- n zeros; the number stays a variable, so that no list of that many is written out
 pub fresh-of-zeros : (n m size : ℕ) (ts : List ℕ) → ts ≡ replicate n 0 → n ≡ words → m ≡ min size largestMachine → Fresh size (putAll ts 0 (rootRow m))

@@ -99,7 +99,7 @@ group-ext v w e =
 pub process-ext : (v w : ℕ → ℕ) → ((k : ℕ) → k < row → v k ≡ w k) → processRow v ≡ processRow w
 process-ext v w e = λ i. record { place = placeIn (e placeField (omega arith) i); user = e userField (omega arith) i }
 
-sum-low : (r : Resource) → sumField r < row
+pub sum-low : (r : Resource) → sumField r < row
 sum-low Pages = omega arith
 sum-low Processes = omega arith
 
