@@ -36,7 +36,7 @@ fn two_limits() -> Tree
 }
 
 // In P5 the release that is refused comes first: it leaves the six pages where they are.
-pub fn p1_to_p5() {
+pub(crate) fn p1_to_p5() {
     let mut tree = two_limits();
     case(1);
     charge(&mut tree, 5, 8);
@@ -86,7 +86,7 @@ fn forks(tree: &mut Tree)
 }
 
 // Process 7 is in the root.
-pub fn consulted() {
+pub(crate) fn consulted() {
     let mut tree = limits_above();
     forks(&mut tree);
     charge(&mut tree, 5, 9);

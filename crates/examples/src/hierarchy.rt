@@ -9,7 +9,7 @@ use super::tree_calls::hand_over;
 use super::tree_calls::make;
 use tree::layout::Tree;
 
-pub fn p9() {
+pub(crate) fn p9() {
     let mut tree = fresh_tree(1024);
     write_subtree_control(&mut tree, 0, 0, b"+cpu -cpu +memory");
     read(&tree, 0, b"cgroup.subtree_control");
@@ -38,7 +38,7 @@ fn delegated() -> Tree
 }
 
 // The same move passes once user 1000 owns group 1 too.
-pub fn p10() {
+pub(crate) fn p10() {
     let mut tree = delegated();
     write_procs(&mut tree, 1000, 4, 9);
     write_procs(&mut tree, 1000, 3, 9);
@@ -47,7 +47,7 @@ pub fn p10() {
     write_procs(&mut tree, 1000, 4, 9);
 }
 
-pub fn depths() {
+pub(crate) fn depths() {
     let mut tree = fresh_tree(1024);
     make(&mut tree, 0, 0, 1);
     make(&mut tree, 0, 1, 2);

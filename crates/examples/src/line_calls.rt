@@ -19,7 +19,7 @@ fn write(user: u32, group: u64, file: &[u8], line: &[u8]) {
 }
 
 // The line is the process's number.
-pub fn write_procs(tree: &mut Tree, user: u32, group: u64, process: u64)
+pub(crate) fn write_procs(tree: &mut Tree, user: u32, group: u64, process: u64)
     requires { ⌜ Kept (now tree) ⌝ }
     ensures { λ _. ⌜ Kept (now (tree .exit)) ⌝ }
 {
@@ -30,7 +30,7 @@ pub fn write_procs(tree: &mut Tree, user: u32, group: u64, process: u64)
     answer(ss_write_procs(tree, user, group, line));
 }
 
-pub fn write_subtree_control(tree: &mut Tree, user: u32, group: u64, line: &[u8])
+pub(crate) fn write_subtree_control(tree: &mut Tree, user: u32, group: u64, line: &[u8])
     requires { ⌜ Kept (now tree) ⌝ }
     ensures { λ _. ⌜ Kept (now (tree .exit)) ⌝ }
 {
@@ -38,7 +38,7 @@ pub fn write_subtree_control(tree: &mut Tree, user: u32, group: u64, line: &[u8]
     answer(ss_write_subtree_control(tree, user, group, line));
 }
 
-pub fn write_setting(tree: &mut Tree, user: u32, group: u64, file: &[u8], line: &[u8])
+pub(crate) fn write_setting(tree: &mut Tree, user: u32, group: u64, file: &[u8], line: &[u8])
     requires { ⌜ Kept (now tree) ⌝ }
     ensures { λ _. ⌜ Kept (now (tree .exit)) ⌝ }
 {
@@ -47,7 +47,7 @@ pub fn write_setting(tree: &mut Tree, user: u32, group: u64, file: &[u8], line: 
 }
 
 // User 0 writes a figure.
-pub fn write_figure(tree: &mut Tree, group: u64, file: &[u8], figure: u64)
+pub(crate) fn write_figure(tree: &mut Tree, group: u64, file: &[u8], figure: u64)
     requires { ⌜ Kept (now tree) ⌝ }
     ensures { λ _. ⌜ Kept (now (tree .exit)) ⌝ }
 {
@@ -62,7 +62,7 @@ fn found(line: &[u8], start: u64, size: u64) {
     fill(b", at #, length #\n", start, size, 0);
 }
 
-pub fn first_bad_word(line: &[u8]) {
+pub(crate) fn first_bad_word(line: &[u8]) {
     text(b"first bad word of ");
     say_line(line);
     let mut told = [0u64; 2];

@@ -5,34 +5,34 @@ use super::line_calls::write_subtree_control;
 use super::reply_calls::read;
 use tree::layout::Tree;
 
-pub fn turn_on_memory(tree: &mut Tree, group: u64)
+pub(crate) fn turn_on_memory(tree: &mut Tree, group: u64)
     requires { ⌜ Kept (now tree) ⌝ }
     ensures { λ _. ⌜ Kept (now (tree .exit)) ⌝ }
 {
     write_subtree_control(tree, 0, group, b"+memory");
 }
 
-pub fn write_memory_max(tree: &mut Tree, group: u64, bytes: u64)
+pub(crate) fn write_memory_max(tree: &mut Tree, group: u64, bytes: u64)
     requires { ⌜ Kept (now tree) ⌝ }
     ensures { λ _. ⌜ Kept (now (tree .exit)) ⌝ }
 {
     write_figure(tree, group, b"memory.max", bytes);
 }
 
-pub fn write_pids_max(tree: &mut Tree, group: u64, count: u64)
+pub(crate) fn write_pids_max(tree: &mut Tree, group: u64, count: u64)
     requires { ⌜ Kept (now tree) ⌝ }
     ensures { λ _. ⌜ Kept (now (tree .exit)) ⌝ }
 {
     write_figure(tree, group, b"pids.max", count);
 }
 
-pub fn read_memory_max(tree: &Tree, group: u64)
+pub(crate) fn read_memory_max(tree: &Tree, group: u64)
     requires { ⌜ Kept (now tree) ⌝ }
 {
     read(tree, group, b"memory.max");
 }
 
-pub fn read_memory_current(tree: &Tree, group: u64)
+pub(crate) fn read_memory_current(tree: &Tree, group: u64)
     requires { ⌜ Kept (now tree) ⌝ }
 {
     read(tree, group, b"memory.current");

@@ -29,7 +29,7 @@ fn shown(n: u32, length: u64, reply: &[u8]) {
     text(b"\n");
 }
 
-pub fn read(tree: &Tree, group: u64, file: &[u8])
+pub(crate) fn read(tree: &Tree, group: u64, file: &[u8])
     requires { ⌜ Kept (now tree) ⌝ }
 {
     asked(group, file);
@@ -52,7 +52,7 @@ fn asked_into(group: u64, file: &[u8], size: u64) {
     fill(b" into # bytes", size, 0, 0);
 }
 
-pub fn read_into(tree: &Tree, group: u64, file: &[u8], reply: &mut [u8])
+pub(crate) fn read_into(tree: &Tree, group: u64, file: &[u8], reply: &mut [u8])
     requires { ⌜ Kept (now tree) ⌝ }
 {
     asked_into(group, file, reply.len() as u64);
@@ -61,7 +61,7 @@ pub fn read_into(tree: &Tree, group: u64, file: &[u8], reply: &mut [u8])
     delivered(n, told[0], reply);
 }
 
-pub fn membership_into(tree: &Tree, process: u64, reply: &mut [u8])
+pub(crate) fn membership_into(tree: &Tree, process: u64, reply: &mut [u8])
     requires { ⌜ Kept (now tree) ⌝ }
 {
     fill(

@@ -3,7 +3,7 @@
 // The longest line that a call takes.
 const LONGEST_LINE: usize = 128;
 
-pub fn text(s: &[u8]) {
+pub(crate) fn text(s: &[u8]) {
     io::write_all(1, s);
 }
 
@@ -30,18 +30,18 @@ fn fill_bytes(form: &[u8], values: [u64; 3]) {
 }
 
 // A form, with a number for each '#'.
-pub fn fill(form: &[u8], first: u64, second: u64, third: u64) {
+pub(crate) fn fill(form: &[u8], first: u64, second: u64, third: u64) {
     fill_bytes(form, [first, second, third]);
 }
 
-pub fn heading(s: &[u8]) {
+pub(crate) fn heading(s: &[u8]) {
     text(b"\n");
     text(s);
     text(b"\n");
 }
 
 // The name of a case that is marked P.
-pub fn case(n: u64) {
+pub(crate) fn case(n: u64) {
     fill(b"P#\n", n, 0, 0);
 }
 
@@ -74,14 +74,14 @@ fn bytes_within(s: &[u8], start: u64, size: u64) {
 }
 
 // The bytes of s from a place on, in quotes: as many as asked for, or as there are.
-pub fn part(s: &[u8], start: u64, size: u64) {
+pub(crate) fn part(s: &[u8], start: u64, size: u64) {
     text(b"\"");
     bytes_within(s, start, size);
     text(b"\"");
 }
 
 // A line; one that is too long for the calls that take lines by its length alone.
-pub fn line(s: &[u8]) {
+pub(crate) fn line(s: &[u8]) {
     if s.len() > LONGEST_LINE {
         fill(b"# bytes", s.len() as u64, 0, 0);
         return;
@@ -90,6 +90,6 @@ pub fn line(s: &[u8]) {
 }
 
 // The end of a call's line: document 01's number.
-pub fn answer(n: u32) {
+pub(crate) fn answer(n: u32) {
     fill(b": #\n", n as u64, 0, 0);
 }

@@ -38,7 +38,7 @@ fn show_no_memory_max(tree: &mut Tree)
     read_memory_max(tree, 1);
 }
 
-pub fn p6_p7() {
+pub(crate) fn p6_p7() {
     let mut tree = one_group();
     case(6);
     show_memory_max(&mut tree, 4097);
@@ -63,7 +63,7 @@ fn write_two_weights(tree: &mut Tree)
     write_setting(tree, 0, 1, b"cpu.weight", b"1 2");
 }
 
-pub fn p8() {
+pub(crate) fn p8() {
     let mut tree = one_group();
     write_weight(&mut tree, 1);
     write_weight(&mut tree, 10000);

@@ -15,7 +15,7 @@ use super::tree_calls::fresh_tree;
 use super::tree_calls::hand_over;
 use super::tree_calls::make;
 
-pub fn pids_limit_and_move() {
+pub(crate) fn pids_limit_and_move() {
     let mut tree = fresh_tree(1024);
     make(&mut tree, 0, 0, 1);
     write_subtree_control(&mut tree, 0, 0, b"+pids");
@@ -28,7 +28,7 @@ pub fn pids_limit_and_move() {
     fork(&mut tree, 5, 7);
 }
 
-pub fn pages_stay() {
+pub(crate) fn pages_stay() {
     let mut tree = fresh_tree(1024);
     make(&mut tree, 0, 0, 1);
     make(&mut tree, 0, 0, 2);
@@ -41,7 +41,7 @@ pub fn pages_stay() {
     read_memory_current(&tree, 2);
 }
 
-pub fn limit_of_the_owner() {
+pub(crate) fn limit_of_the_owner() {
     let mut tree = fresh_tree(1024);
     make(&mut tree, 0, 0, 1);
     turn_on_memory(&mut tree, 0);
@@ -51,7 +51,7 @@ pub fn limit_of_the_owner() {
     read_memory_max(&tree, 1);
 }
 
-pub fn nothing_halfway() {
+pub(crate) fn nothing_halfway() {
     let mut tree = fresh_tree(1024);
     make(&mut tree, 0, 0, 1);
     make(&mut tree, 0, 1, 2);

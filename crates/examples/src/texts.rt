@@ -17,7 +17,7 @@ fn membership(tree: &Tree)
 }
 
 // Process 5 in the root, and then in group 7 under group 3.
-pub fn p11() {
+pub(crate) fn p11() {
     let mut tree = fresh_tree(1024);
     make(&mut tree, 0, 0, 3);
     make(&mut tree, 0, 3, 7);
@@ -39,7 +39,7 @@ fn set_of_the_root(tree: &Tree)
     read_into(tree, 0, b"cgroup.subtree_control", &mut [b'.'; 12]);
 }
 
-pub fn whole_replies() {
+pub(crate) fn whole_replies() {
     let mut tree = fresh_tree(1024);
     admit(&mut tree, 200, 0);
     admit(&mut tree, 3, 0);
@@ -66,7 +66,7 @@ fn no_words() {
     first_bad_word(b"\n\n");
 }
 
-pub fn first_bad_words() {
+pub(crate) fn first_bad_words() {
     first_bad_word(b"+cpu +disk -pids\n");
     no_words();
     first_bad_word(b"  +");

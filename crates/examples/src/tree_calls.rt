@@ -14,14 +14,14 @@ use shootspiral::tree_calls::ss_remove;
 use tree::fresh::fresh;
 use tree::layout::Tree;
 
-pub fn fresh_tree(pages: u64) -> Tree
+pub(crate) fn fresh_tree(pages: u64) -> Tree
     ensures { λ r. ⌜ Kept r ⌝ }
 {
     fill(b"fresh tree, machine # pages\n", pages, 0, 0);
     fresh(pages)
 }
 
-pub fn make(tree: &mut Tree, user: u32, parent: u64, group: u64)
+pub(crate) fn make(tree: &mut Tree, user: u32, parent: u64, group: u64)
     requires { ⌜ Kept (now tree) ⌝ }
     ensures { λ _. ⌜ Kept (now (tree .exit)) ⌝ }
 {
@@ -34,7 +34,7 @@ pub fn make(tree: &mut Tree, user: u32, parent: u64, group: u64)
     answer(ss_make(tree, user, parent, group));
 }
 
-pub fn remove(tree: &mut Tree, user: u32, group: u64)
+pub(crate) fn remove(tree: &mut Tree, user: u32, group: u64)
     requires { ⌜ Kept (now tree) ⌝ }
     ensures { λ _. ⌜ Kept (now (tree .exit)) ⌝ }
 {
@@ -42,7 +42,7 @@ pub fn remove(tree: &mut Tree, user: u32, group: u64)
     answer(ss_remove(tree, user, group));
 }
 
-pub fn hand_over(tree: &mut Tree, user: u32, group: u64, owner: u32)
+pub(crate) fn hand_over(tree: &mut Tree, user: u32, group: u64, owner: u32)
     requires { ⌜ Kept (now tree) ⌝ }
     ensures { λ _. ⌜ Kept (now (tree .exit)) ⌝ }
 {
@@ -55,7 +55,7 @@ pub fn hand_over(tree: &mut Tree, user: u32, group: u64, owner: u32)
     answer(ss_hand_over(tree, user, group, owner));
 }
 
-pub fn admit(tree: &mut Tree, process: u64, user: u32)
+pub(crate) fn admit(tree: &mut Tree, process: u64, user: u32)
     requires { ⌜ Kept (now tree) ⌝ }
     ensures { λ _. ⌜ Kept (now (tree .exit)) ⌝ }
 {
@@ -74,7 +74,7 @@ fn room(n: u32, told: [u64; 2]) {
     fill(b": #, group #, consulted #\n", n as u64, group, count);
 }
 
-pub fn fork(tree: &mut Tree, parent: u64, process: u64)
+pub(crate) fn fork(tree: &mut Tree, parent: u64, process: u64)
     requires { ⌜ Kept (now tree) ⌝ }
     ensures { λ _. ⌜ Kept (now (tree .exit)) ⌝ }
 {
@@ -84,7 +84,7 @@ pub fn fork(tree: &mut Tree, parent: u64, process: u64)
     room(n, told);
 }
 
-pub fn exit(tree: &mut Tree, process: u64)
+pub(crate) fn exit(tree: &mut Tree, process: u64)
     requires { ⌜ Kept (now tree) ⌝ }
     ensures { λ _. ⌜ Kept (now (tree .exit)) ⌝ }
 {
@@ -92,7 +92,7 @@ pub fn exit(tree: &mut Tree, process: u64)
     answer(ss_exit(tree, process));
 }
 
-pub fn charge(tree: &mut Tree, process: u64, pages: u64)
+pub(crate) fn charge(tree: &mut Tree, process: u64, pages: u64)
     requires { ⌜ Kept (now tree) ⌝ }
     ensures { λ _. ⌜ Kept (now (tree .exit)) ⌝ }
 {
@@ -102,7 +102,7 @@ pub fn charge(tree: &mut Tree, process: u64, pages: u64)
     room(n, told);
 }
 
-pub fn release(tree: &mut Tree, group: u64, pages: u64)
+pub(crate) fn release(tree: &mut Tree, group: u64, pages: u64)
     requires { ⌜ Kept (now tree) ⌝ }
     ensures { λ _. ⌜ Kept (now (tree .exit)) ⌝ }
 {
