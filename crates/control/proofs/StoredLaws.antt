@@ -9,13 +9,16 @@ use Rattle.model.specs.Tree.{Tree, Core, Group, Place, Controls, Settings, with
 use Rattle.model.specs.Hierarchy.{childOf, ownPages, amount}
 use Rattle.model.specs.Settings.{SettingValue}
 use Rattle.model.specs.Rules.{leaving}
-use Rattle.model.specs.Checks.{Pass}
+use Rattle.model.specs.Checks.{first, Pass}
 use Rattle.model.specs.Calls.{writeControl, writeSetting, lineValue, checks, verdict}
 use Rattle.model.specs.Effects.{newSet, controlled, written, effect}
 use Rattle.model.specs.declared.Resource.{Resource}
 use Rattle.model.specs.declared.Resource.the-variants.{Pages, Processes}
-use Rattle.model.specs.declared.Answer.the-variants.{Done}
+use Rattle.model.specs.declared.Errno.{Errno}
+use Rattle.model.specs.declared.Answer.{Answer}
+use Rattle.model.specs.declared.Answer.the-variants.{Done, Refused}
 use Rattle.model.proofs.FunctionLaws.{split, upd-keeps}
+use Rattle.model.proofs.CheckLaws.{andThen, first-append}
 use Rattle.model.proofs.AmountLaws.{usage-same, population-same}
 use Rattle.model.proofs.Steps.{passed}
 use Rattle.model.proofs.ControlPreservation.{reset-child, reset-other, live-after-control, parent-after-control}
@@ -29,9 +32,9 @@ use Rattle.tree.proofs.CallLaws.{call-done, applied-wrote}
 use Rattle.text.specs.Value.{readingOf, told}
 use Rattle.text.specs.declared.value.Reading.{Reading}
 use Rattle.control.specs.Stores.{changedAt}
-use Rattle.control.specs.Values.{Settable}
+use Rattle.control.specs.Values.{Settable, placeChecks, readingAnswer}
 use Rattle.control.proofs.WroteLaws.{wrote-as}
-use Rattle.control.proofs.ValueLaws.{told-value}
+use Rattle.control.proofs.ValueLaws.{valueChecks, value-answer, told-value}
 
 -- amounts go by parents, own pages and places
 amount-same : (s s′ : ℕ → Core) (pl : ℕ → Place) → ((g : ℕ) → s′ g .parent ≡ s g .parent)
@@ -62,6 +65,22 @@ module _ (t : Tree) (g : ℕ) (o : Option SettingValue) where
   amount-after-setting =
       amount-same (cores t) (λ k. set-in k .core) (places t)
       (part-after-setting (λ v. v .core .parent) (λ _ _. refl)) (part-after-setting (λ v. ownPages (v .core)) (λ _ _. refl))
+
+-- The checks before the value, then those of the value.
+module _ (t : Tree) (user g : ℕ) (file line : List ℕ) where
+  setting-verdict : (a b : Answer) → a ≡ first (placeChecks t user g file line) → b ≡ first (valueChecks file line)
+      → verdict t (writeSetting user g file line) ≡ andThen a b
+  unfolding verdict checks placeChecks
+  setting-verdict a b p q = first-append (placeChecks t user g file line) (valueChecks file line) ∙ rw (← p, ← q)
+
+  pub place-refused : (a : Answer) (e : Errno) → a ≡ first (placeChecks t user g file line) → a ≡ Refused e
+      → a ≡ verdict t (writeSetting user g file line)
+  place-refused a e p r = r ∙ sym (setting-verdict (Refused e) _ (sym r ∙ p) refl)
+
+  -- the value, where those before it pass
+  pub value-decides : (a b : Answer) (r : Reading) → a ≡ first (placeChecks t user g file line) → a ≡ Done → r ≡ readingOf (lineValue file line)
+      → b ≡ readingAnswer r → b ≡ verdict t (writeSetting user g file line)
+  value-decides a b r p d e f = sym (setting-verdict Done b (sym d ∙ p) (f ∙ value-answer file line r e))
 
 module _ (xs : List ℕ) (k : Kept xs) (user g : ℕ) (file line : List ℕ)
     (v : verdict (view xs) (writeSetting user g file line) ≡ Done)

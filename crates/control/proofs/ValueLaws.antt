@@ -3,18 +3,18 @@
 use Prim.Native.Nat.{ℕ, _+_, _<_, _≤_}
 use native.Mathlib.Omega.{arith}
 use mathlib.Core.Bool.{true, false}
-use mathlib.Core.List.{List}
+use mathlib.Core.List.{List, [], _∷_}
 use mathlib.Core.Option.{Option, none, some}
 use mathlib.Core.Path.{_≡_, refl, ap, sym, _∙_}
 use lib.Dec.{leb}
 use borrow.Author.Tests.{leb-true}
 use Rattle.model.specs.Functions.{known, passes}
-use Rattle.model.specs.Checks.{first, done, lacking, met}
+use Rattle.model.specs.Checks.{Check, need, first, done, lacking, met}
 use Rattle.model.specs.Calls.{settingValue, lineValue}
 use Rattle.model.specs.Names.{settingNamed}
 use Rattle.model.specs.Text.{lineWords}
 use Rattle.model.specs.Tree.{Group, CpuSettings, withLimit, withSettings}
-use Rattle.model.specs.Settings.{SettingValue, weight, valueOf, inRange, put, shown}
+use Rattle.model.specs.Settings.{SettingValue, weight, bandwidth, maximum, valueOf, inRange, put, shown}
 use Rattle.model.specs.Settings.{figureIn, periodIn, largest, toAmount, mapLimit}
 use Rattle.model.specs.Effects.{written}
 use Rattle.model.specs.declared.Resource.{Resource}
@@ -32,9 +32,16 @@ use Rattle.tree.specs.Changes.{GroupRow, Storable}
 use Rattle.text.specs.Value.{reading, told, readingOf}
 use Rattle.text.specs.declared.value.Reading.{Reading}
 use Rattle.text.proofs.ReadingLaws.{told-reading, is-value, is-malformed, is-out-of-range}
-use Rattle.control.specs.Values.{Settable, valueChecks}
+use Rattle.control.specs.Values.{Settable, readingAnswer}
 
 -- ---- the checks of a value
+
+-- those of a line that is short enough
+abbrev pub valueChecks : List ℕ → List ℕ → List Check
+valueChecks file line =
+    need (known (lineValue file line)) Einval
+    ∷ need (passes (lineValue file line) inRange) Erange
+    ∷ []
 
 module _ (file line : List ℕ) where
   pub value-named : (s : Setting) (r : Reading) → settingNamed file ≡ some s → r ≡ readingOf (valueOf s (lineWords line))
@@ -45,18 +52,27 @@ module _ (file line : List ℕ) where
   value-unnamed e = ap (λ o. readingOf (settingValue o line)) (sym e)
 
   module _ (r : Reading) (e : r ≡ readingOf (lineValue file line)) where
-    pub value-malformed : r ≡ Reading.Malformed → Refused Einval ≡ first (valueChecks file line)
+    value-malformed : r ≡ Reading.Malformed → Refused Einval ≡ first (valueChecks file line)
     value-malformed f = says-first (lacking (ap known (is-malformed (lineValue file line) (sym f ∙ e))))
 
-    pub value-out-of-range : r ≡ Reading.OutOfRange → Refused Erange ≡ first (valueChecks file line)
+    value-out-of-range : r ≡ Reading.OutOfRange → Refused Erange ≡ first (valueChecks file line)
     value-out-of-range f =
         let o = is-out-of-range (lineValue file line) (sym f ∙ e) in
         says-first (met (o .0) (lacking (o .1)))
 
-    pub value-fits : (v : SettingValue) → r ≡ reading v → Done ≡ first (valueChecks file line)
+    value-fits : (v : SettingValue) → r ≡ reading v → Done ≡ first (valueChecks file line)
     value-fits v f =
         let o = is-value (lineValue file line) v (sym f ∙ e) in
         says-first (met (ap known (o .0)) (met (ap (λ x. passes x inRange) (o .0) ∙ o .1) done))
+
+  -- what was read answers as the checks do
+  pub value-answer : (r : Reading) → r ≡ readingOf (lineValue file line) → readingAnswer r ≡ first (valueChecks file line)
+  value-answer (Reading.Weight n) e = value-fits (Reading.Weight n) e (weight n) refl
+  value-answer (Reading.Quota q) e = value-fits (Reading.Quota q) e (bandwidth q none) refl
+  value-answer (Reading.Bandwidth q p) e = value-fits (Reading.Bandwidth q p) e (bandwidth q (some p)) refl
+  value-answer (Reading.Max r l) e = value-fits (Reading.Max r l) e (maximum r l) refl
+  value-answer Reading.Malformed e = value-malformed Reading.Malformed e refl
+  value-answer Reading.OutOfRange e = value-out-of-range Reading.OutOfRange e refl
 
 -- a value in its range is told
 pub told-value : (o : Option SettingValue) → passes o inRange ≡ true → told (readingOf o) ≡ o

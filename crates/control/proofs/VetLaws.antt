@@ -45,10 +45,6 @@ module _ {all : List Check} where
   unfolding first
   is-done p = sym (p .same)
 
-  -- the rest, answered by another
-  pub is-rest : {rest : List Check} {a : Answer} → Passed all rest → a ≡ first rest → a ≡ first all
-  is-rest p h = h ∙ sym (p .same)
-
 module _ (t : Tree) (g : ℕ) where
   -- the controller of a setting, found first
   pub setting-on : (o : Option Setting) (s : Setting) (c : Controller) (r : Bool) → o ≡ some s → c ≡ settingController s

@@ -12,7 +12,7 @@ ghost use Rattle.tree.specs.Changes.{Wrote};
 ghost use Rattle.tree.specs.Kept.{Kept};
 ghost use Rattle.tree.specs.Calling.{Calling};
 ghost use Rattle.control.specs.Stores.{changedAt};
-ghost use Rattle.control.specs.Values.{Settable, valueChecks};
+ghost use Rattle.control.specs.Values.{Settable, placeChecks, readingAnswer};
 use model::Answer;
 use model::Errno;
 use model::GroupId;
@@ -85,10 +85,9 @@ fn store(t: &mut Tree, g: GroupId, value: Reading)
 }
 
 // Einval: malformed. Erange: a figure outside its range.
-fn vet_value(file: &[u8], line: &[u8]) -> Answer
-    ensures { λ r. ⌜ r ≡ first (valueChecks (now (file .entry)) (now (line .entry))) ⌝ }
+fn vet_value(value: Reading) -> Answer
+    ensures { λ r. ⌜ r ≡ readingAnswer value ⌝ }
 {
-    let value = value_for(file, line);
     match value {
         Reading::Malformed => Answer::Refused(Errno::Einval),
         Reading::OutOfRange => Answer::Refused(Errno::Erange),
@@ -100,10 +99,10 @@ fn vet_value(file: &[u8], line: &[u8]) -> Answer
 }
 
 // Einval: no group number. Enoent: not live, no such setting, its controller not on. Eacces: may not write the parent.
-// Einval: a line that is too long. Then its value.
+// Einval: a line that is too long. Its value is vetted when it is read.
 fn vet_setting(t: &Tree, user: u32, g: GroupId, file: &[u8], line: &[u8]) -> Answer
     requires { ⌜ Kept (now t) ⌝ }
-    ensures { λ r. ⌜ r ≡ verdict (view (now (t .entry))) (writeSetting user (g .0) (now (file .entry)) (now (line .entry))) ⌝ }
+    ensures { λ r. ⌜ r ≡ first (placeChecks (view (now (t .entry))) user (g .0) (now (file .entry)) (now (line .entry))) ⌝ }
 {
     if GROUPS <= g.0 {
         return Answer::Refused(Errno::Einval);
@@ -125,7 +124,7 @@ fn vet_setting(t: &Tree, user: u32, g: GroupId, file: &[u8], line: &[u8]) -> Ans
     if is_too_long(line) {
         return Answer::Refused(Errno::Einval);
     }
-    vet_value(file, line)
+    Answer::Done
 }
 
 // "A limit below present usage is accepted."
@@ -138,6 +137,10 @@ pub fn write_setting(tree: &mut Tree, user: u32, group: GroupId, file: &[u8], li
         return vetted;
     };
     let value = value_for(file, line);
+    let fits = vet_value(value);
+    let Answer::Done = fits else {
+        return fits;
+    };
     store(tree, group, value);
     Answer::Done
 }

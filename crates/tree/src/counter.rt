@@ -1,4 +1,4 @@
-// The running sums along a chain, and whether each group on it has room. Written once for pages and for processes.
+// Running sums up the hierarchy, and whether each group of a chain has room. Written once for pages and for processes.
 ghost use mathlib.Core.Path.{_≡_};
 ghost use Prim.Native.Nat.{_+_, _-_, _<_, _≤_};
 ghost use Rattle.model.specs.Sizes.{groups};
