@@ -6,8 +6,8 @@
  *
  * A call answers a number: SS_OK, or the errno of the first check that fails, in the order in which
  * the comment on the call lists them. A refusal leaves everything as before the call, the reply
- * buffer included. Any number may be passed where a number is asked for; what is out of range is
- * refused. A line is any bytes with a length and need not end in NUL or a newline.
+ * buffer included; only `told` is written. Any number may be passed where a number is asked for; what
+ * is out of range is refused. A line is any bytes with a length and need not end in NUL or a newline.
  *
  * What a caller owes, and no call can test:
  * - `tree` points to SS_TREE_WORDS words that ss_fresh has written, and after it only calls of this
