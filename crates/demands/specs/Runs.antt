@@ -13,7 +13,7 @@ use Rattle.tree.specs.Kept.{Kept, Fresh}
 use Rattle.tree.specs.Calling.{Answered}
 
 -- A list of calls with the numbers answered, from a fresh tree of size m, each on the words that the one before handed back. What a
--- call promises is `Answered`, as every function of the C interface that has a tree ensures it.
+-- call promises is `Answered`, as every exported call on a tree ensures it.
 pub data Runs (m : ℕ) : List Entry → List ℕ → Type 0 where
   fresh : {xs : List ℕ} → Fresh m xs → Runs m [] xs
   next : {es : List Entry} {xs ys : List ℕ} {c : Call} {n : ℕ} → Runs m es xs → Answered xs ys c n

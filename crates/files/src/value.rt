@@ -18,6 +18,7 @@ use model::GroupId;
 use model::Limit;
 use model::Resource;
 use model::Setting;
+use text::value::PAGE_BYTES;
 use text::write::put_byte;
 use text::write::put_limit;
 use text::write::put_number;
@@ -28,8 +29,6 @@ use tree::setting::limit;
 use tree::setting::period;
 use tree::setting::quota;
 use tree::setting::weight;
-
-const PAGE_BYTES: u64 = 4096;
 
 // An amount of a resource, as its files show it.
 fn to_figure(r: Resource, n: u64) -> u64

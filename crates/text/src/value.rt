@@ -32,6 +32,9 @@ const LARGEST_BYTES: u64 = 4503599627370496;
 
 const LARGEST_PROCESSES: u64 = 4194304;
 
+// The bytes of a page: memory.max and memory.current are in bytes.
+pub const PAGE_BYTES: u64 = 4096;
+
 // A number or a limit, read with its range.
 enum RangedNumber {
     In(u64),
@@ -206,5 +209,5 @@ pub fn to_pages(bytes: u64) -> u64
     requires { ⌜ bytes ≤ largest Resource.Pages ⌝ }
     ensures { λ r. ⌜ r ≡ toPages bytes ⌝ }
 {
-    (bytes + 4095) / 4096
+    (bytes + PAGE_BYTES - 1) / PAGE_BYTES
 }
