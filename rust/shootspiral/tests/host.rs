@@ -22,6 +22,7 @@ fn the_header_says_the_same() {
         ("SS_MAX_MACHINE_PAGES", shootspiral::number::MAX_MACHINE_PAGES),
         ("SS_MAX_LINE", shootspiral::number::MAX_LINE as u64),
         ("SS_LONGEST_REPLY", LONGEST_REPLY as u64),
+        ("SS_LONGEST_CHAIN", MAX_DEPTH + 1),
     ];
     let errnos = Refusal::ALL.map(|refusal| (refusal.name(), u64::from(refusal.number())));
     let errnos = errnos.map(|(name, number)| (format!("SS_{name}"), number));
