@@ -8,7 +8,7 @@ use mathlib.Core.Path.{_≡_, refl, ap, ap₂, sym, _∙_, fun-ext, subst}
 use Rattle.model.specs.Functions.{pick}
 use Rattle.model.specs.Checks.{errnoNumber, answerNumber, first, Check}
 use Rattle.model.specs.Tree.{Tree, Core, Settings, settingsOf, controllerOf, withLimits, noGroup, atGroup, cores, parents, sets, settingsAt, places}
-use Rattle.model.specs.Hierarchy.{childOf, factsOf}
+use Rattle.model.specs.Hierarchy.{childOf, usage, factsOf}
 use Rattle.model.specs.Control.{asked, isDropped}
 use Rattle.model.specs.Settings.{SettingValue, weight, bandwidth, maximum, put, reset}
 use Rattle.model.specs.Rooms.{Room, room, full, roomFor, isFull, shortage}
@@ -16,9 +16,9 @@ use Rattle.model.specs.Rules.{processGroup, lineProcess, leaving}
 use Rattle.model.specs.Calls.{Call, make, remove, handOver, writeProcs, writeControl, writeSetting, admit, fork, exit, charge, release, read, membership, lineValue, chargeChecks, forkChecks, checks, verdict}
 use Rattle.model.specs.Effects.{newSet, controlled, written, effect, step, fresh, run}
 use Rattle.model.specs.Replies.{roomAnswer, chargeAnswer, forkAnswer, roomNumber, readAnswer, readNumber, reply, replyBy}
-use Rattle.model.specs.Book.{Book, limitsAfter, childAfter, enterValue, enter, bookStep, freshBook, fed}
+use Rattle.model.specs.Book.{Book, limitsAfter, childAfter, enterValue, enter, bookStep, freshBook, bookOf, fed}
 use Rattle.model.specs.WellFormed.{WellFormed}
-use Rattle.model.specs.Demands.{log, treeAfter, bookAfter}
+use Rattle.model.specs.Lists.{log, bookAfter}
 use Rattle.model.specs.declared.Resource.{Resource}
 use Rattle.model.specs.declared.Resource.the-variants.{Pages, Processes}
 use Rattle.model.specs.declared.Limit.{Limit}
@@ -30,6 +30,7 @@ use Rattle.model.specs.declared.Answer.the-variants.{Done, Refused}
 use Rattle.model.proofs.FunctionLaws.{split, upd-map, upd-keeps}
 use Rattle.model.proofs.CheckLaws.{first-append, andThen}
 use Rattle.model.proofs.ControlLaws.{leave-dropped}
+use Rattle.model.proofs.AmountLaws.{usage-fresh}
 use Rattle.model.proofs.RoomLaws.{default-limit}
 use Rattle.model.proofs.RuleLaws.{on-other}
 use Rattle.model.proofs.Preservation.{cores-after-remove}
@@ -72,12 +73,12 @@ pub record Same (t : Tree) (b : Book) : Type 0 where
   pub groups : cores t ≡ b .group
   pub places : places t ≡ b .place
 
--- the book of a tree, with marks
-abbrev pub bookOf : Tree → (ℕ → ℕ) → Book
-bookOf t mark = record { machine = t .machine; group = cores t; mark = mark; place = places t }
+-- what a book keeps that is the tree's, with marks
+abbrev pub bookWith : Tree → (ℕ → ℕ) → Book
+bookWith t mark = record { machine = t .machine; group = cores t; mark = mark; place = places t }
 
-pub book-of-same : (t : Tree) (b : Book) → Same t b → bookOf t (b .mark) ≡ b
-book-of-same t b s = λ i. record { machine = s .machine i; group = s .groups i; mark = b .mark; place = s .places i }
+pub book-with-same : (t : Tree) (b : Book) → Same t b → bookWith t (b .mark) ≡ b
+book-with-same t b s = λ i. record { machine = s .machine i; group = s .groups i; mark = b .mark; place = s .places i }
 
 -- A control line: where a controller was not in the set, the children have no limit to lose.
 module _ (t : Tree) (w : WellFormed t) (g : ℕ) (line : List ℕ) where
@@ -130,7 +131,7 @@ module _ (t : Tree) (w : WellFormed t) (g : ℕ) (line : List ℕ) where
 
 -- A setting: only the two limits are kept in the book.
 module _ (t : Tree) (mark : ℕ → ℕ) (g : ℕ) where
-  same-after-value : (v : Option SettingValue) → Same (atGroup t g (written v (t .group g))) (enterValue (bookOf t mark) g v)
+  same-after-value : (v : Option SettingValue) → Same (atGroup t g (written v (t .group g))) (enterValue (bookWith t mark) g v)
   unfolding put
   same-after-value none = record { machine = refl; groups = fun-ext (upd-keeps (λ x. x .core) (t .group) g _ refl); places = refl }
   same-after-value (some (weight n)) = record { machine = refl; groups = fun-ext (upd-keeps (λ x. x .core) (t .group) g _ refl); places = refl }
@@ -138,7 +139,7 @@ module _ (t : Tree) (mark : ℕ → ℕ) (g : ℕ) where
   same-after-value (some (bandwidth q (some p))) = record { machine = refl; groups = fun-ext (upd-keeps (λ x. x .core) (t .group) g _ refl); places = refl }
   same-after-value (some (maximum r l)) = record { machine = refl; groups = upd-map (λ x. x .core) (t .group) g _; places = refl }
 
-pub same-effect : (t : Tree) (mark : ℕ → ℕ) (c : Call) → WellFormed t → Same (effect t c) (enter (bookOf t mark) c)
+pub same-effect : (t : Tree) (mark : ℕ → ℕ) (c : Call) → WellFormed t → Same (effect t c) (enter (bookWith t mark) c)
 unfolding effect enter
 same-effect t mark (make user parent new) w = record { machine = refl; groups = upd-map (λ x. x .core) (t .group) new _; places = refl }
 same-effect t mark (remove user g) w =
@@ -160,7 +161,7 @@ same-effect t mark (read g file buffer) w = record { machine = refl; groups = re
 same-effect t mark (membership p buffer) w = record { machine = refl; groups = refl; places = refl }
 
 pub same-enter : (t : Tree) (b : Book) (c : Call) → WellFormed t → Same t b → Same (effect t c) (enter b c)
-same-enter t b c w s = subst (λ (x : Book). Same (effect t c) (enter x c)) (book-of-same t b s) (same-effect t (b .mark) c w)
+same-enter t b c w s = subst (λ (x : Book). Same (effect t c) (enter x c)) (book-with-same t b s) (same-effect t (b .mark) c w)
 
 -- No step for a refused call.
 book-refused : (b : Book) (c : Call) (e : Errno) → bookStep b c (errnoNumber e) ≡ b
@@ -187,21 +188,22 @@ pub same-fresh : (m : ℕ) → Same (fresh m) (freshBook m)
 unfolding fresh freshBook
 same-fresh m = record { machine = refl; groups = upd-map (λ x. x .core) (λ g. noGroup) 0 _; places = refl }
 
+-- "It begins with the root, no pages, no limit, no process": the book of a fresh tree.
+pub book-of-fresh : (m : ℕ) → bookOf (fresh m) ≡ freshBook m
+unfolding fresh freshBook
+book-of-fresh m =
+    let s : Same (fresh m) (freshBook m) = same-fresh m in
+    let marks : usage (cores (fresh m)) ≡ (λ g. 0) = fun-ext (λ g. ap (λ x. usage x g) (s .groups) ∙ usage-fresh g) in
+    λ i. record { machine = s .machine i; group = s .groups i; mark = marks i; place = s .places i }
+
 -- One call more.
-run-more : (cs : List Call) (t : Tree) (c : Call) → run t (cs ++ (c ∷ [])) ≡ step (run t cs) c
+pub run-more : (cs : List Call) (t : Tree) (c : Call) → run t (cs ++ (c ∷ [])) ≡ step (run t cs) c
 unfolding run
 run-more [] t c = refl
 run-more (x ∷ xs) t c = run-more xs (step t x) c
 
-pub tree-after-more : (m : ℕ) (cs : List Call) (c : Call) → treeAfter m (cs ++ (c ∷ [])) ≡ step (treeAfter m cs) c
-tree-after-more m cs c = run-more cs (fresh m) c
-
-fed-more : (cs : List Call) (t : Tree) (b : Book) (c : Call)
-    → fed b (log t (cs ++ (c ∷ []))) ≡ bookStep (fed b (log t cs)) c (reply (run t cs) c .number)
+pub book-after-more : (cs : List Call) (t : Tree) (b : Book) (c : Call)
+    → bookAfter t b (cs ++ (c ∷ [])) ≡ bookStep (bookAfter t b cs) c (reply (run t cs) c .number)
 unfolding fed log run
-fed-more [] t b c = refl
-fed-more (x ∷ xs) t b c = fed-more xs (step t x) (bookStep b x (reply t x .number)) c
-
-pub book-after-more : (m : ℕ) (cs : List Call) (c : Call)
-    → bookAfter m (cs ++ (c ∷ [])) ≡ bookStep (bookAfter m cs) c (reply (treeAfter m cs) c .number)
-book-after-more m cs c = fed-more cs (fresh m) (freshBook m) c
+book-after-more [] t b c = refl
+book-after-more (x ∷ xs) t b c = book-after-more xs (step t x) (bookStep b x (reply t x .number)) c

@@ -19,7 +19,7 @@ use Rattle.model.specs.Rooms.{over, actingLimit}
 use Rattle.model.specs.Rules.{processGroup, hasChild, hasProcess}
 use Rattle.model.specs.Calls.{Call, make, remove, handOver, writeProcs, writeControl, writeSetting, admit, fork, exit, charge, release, read, membership, lineValue, chargeChecks, forkChecks, checks}
 use Rattle.model.specs.Effects.{charged, effect}
-use Rattle.model.specs.Book.{limitsAfter, childAfter, enterValue, enter, freshBook}
+use Rattle.model.specs.Book.{limitsAfter, childAfter, enterValue, enter}
 use Rattle.model.specs.WellFormed.{WellFormed}
 use Rattle.model.specs.Demands.{Adds, byCharge, byFork, byAdmit}
 use Rattle.model.specs.declared.Resource.{Resource}
@@ -28,10 +28,10 @@ use Rattle.model.specs.declared.Limit.{Limit}
 use Rattle.model.specs.declared.Limit.the-variants.{NoLimit, Figure}
 use Rattle.model.proofs.FunctionLaws.{split, whether, upd-same, upd-other, upd-map, upd-keeps, weigh-yes, weigh-no}
 use Rattle.model.proofs.ChainLaws.{inside-live, inside-root}
-use Rattle.model.proofs.AmountLaws.{place-live, place-free, usage-same, usage-after-charge, usage-after-release, usage-fresh, population-after-birth, amount-after-make, amount-after-remove}
+use Rattle.model.proofs.AmountLaws.{place-live, place-free, usage-same, usage-after-charge, usage-after-release, population-after-birth, amount-after-make, amount-after-remove}
 use Rattle.model.proofs.RoomLaws.{room-on-chain, root-limit-none, own-limit-holds, over-figure, no-figure}
 use Rattle.model.proofs.Steps.{no-child, no-process, process-lives}
-use Rattle.model.proofs.Books.{bookOf}
+use Rattle.model.proofs.Books.{bookWith}
 
 -- An accepted charge or fork, of a process in g: every group on the way up had room for what it now holds.
 module _ (t : Tree) (w : WellFormed t) (r : Resource) (n g a : ℕ) (i : inside (parents t) a g ≡ true) (lg : lives t g ≡ true)
@@ -123,14 +123,14 @@ module _ (g : ℕ) (line : List ℕ) (k : ℕ) (c : Core) where
   child-after : {A : Type 0} (F : Core → A) → ((l : Resource → Limit) → F (withLimits l c) ≡ F c) → F (childAfter g line k c) ≡ F c
   child-after F e = split (childOf g k c) (λ y. ap F (rw (y, childAfter)) ∙ e (limitsAfter line (c .limit))) (λ n. ap F (rw (n, childAfter)))
 
-  child-limit-after : (childAfter g line k c .limit Pages ≡ NoLimit) ⊎ (childAfter g line k c .limit Pages ≡ c .limit Pages)
+  pub child-limit-after : (childAfter g line k c .limit Pages ≡ NoLimit) ⊎ (childAfter g line k c .limit Pages ≡ c .limit Pages)
   child-limit-after =
       split (childOf g k c)
       (λ y. rw (y, childAfter) (split (isDropped (asked line (controllerOf Pages))) (λ d. inl (rw d)) (λ d. inr (rw d))))
       (λ n. rw (n, childAfter) (inr refl))
 
 module _ (t : Tree) (mark : ℕ → ℕ) (w : WellFormed t) (q : Marked (cores t) mark) where
-  marked-value : (g : ℕ) (v : Option SettingValue) → Marked (enterValue (bookOf t mark) g v .group) (enterValue (bookOf t mark) g v .mark)
+  marked-value : (g : ℕ) (v : Option SettingValue) → Marked (enterValue (bookWith t mark) g v .group) (enterValue (bookWith t mark) g v .mark)
   marked-value g none = q
   marked-value g (some (weight n)) = q
   marked-value g (some (bandwidth x p)) = q
@@ -174,7 +174,7 @@ module _ (t : Tree) (mark : ℕ → ℕ) (w : WellFormed t) (q : Marked (cores t
         omega (arith, usage-after-release (cores t) g n (w .sound .range g lg) lg h a),
       ))
 
-  pub marked-enter : (c : Call) → Pass (checks (factsOf t) c) → Marked (enter (bookOf t mark) c .group) (enter (bookOf t mark) c .mark)
+  pub marked-enter : (c : Call) → Pass (checks (factsOf t) c) → Marked (enter (bookWith t mark) c .group) (enter (bookWith t mark) c .mark)
   unfolding enter checks Pass chargeChecks forkChecks
   marked-enter (make user parent new) k = marked-make new parent (search)
   marked-enter (remove user g) k = marked-remove g (search) (eqb-false g 0 (search)) (search) (search)
@@ -199,7 +199,3 @@ module _ (t : Tree) (mark : ℕ → ℕ) (w : WellFormed t) (q : Marked (cores t
   marked-enter (release g n) k = marked-release g n (search) (omega (arith, ltb-false))
   marked-enter (read g file buffer) k = q
   marked-enter (membership p buffer) k = q
-
-pub marked-fresh : (m : ℕ) → Marked (freshBook m .group) (freshBook m .mark)
-unfolding freshBook
-marked-fresh m a l v e = omega (arith, usage-fresh a)

@@ -6,14 +6,16 @@ use mathlib.Core.Path.{_≡_, refl, ap, sym, _∙_, fun-ext}
 use lib.Dec.{eqb}
 use borrow.Author.Tests.{eqb-true, eqb-false, eq-eqb, ne-eqb, not-true}
 use Rattle.model.specs.Functions.{upd}
-use Rattle.model.specs.Tree.{Tree, Core, Group, at, Controls, Settings, settingsOf, withSettings, withSet, cores, lives, parents, sets, settingsAt, places}
-use Rattle.model.specs.Hierarchy.{childOf, ownPages}
+use Rattle.model.specs.Tree.{Tree, Core, Group, at, Controls, Settings, settingsOf, withSettings, withSet, cores, lives, parents, owners, sets, settingsAt, places}
+use Rattle.model.specs.Hierarchy.{childOf, ownPages, amount}
 use Rattle.model.specs.Settings.{AtDefault, reset}
 use Rattle.model.specs.WellFormed.{Defaults, WellFormed}
 use Rattle.model.specs.Effects.{resetChild, controlled}
+use Rattle.model.specs.declared.Resource.{Resource}
+use Rattle.model.specs.declared.Resource.the-variants.{Pages}
 use Rattle.model.specs.declared.Controller.{Controller}
 use Rattle.model.proofs.FunctionLaws.{split, whether, clash, and-left, and-right, upd-same, upd-other, upd-map, upd-keeps}
-use Rattle.model.proofs.AmountLaws.{usage-same}
+use Rattle.model.proofs.AmountLaws.{amount-same}
 use Rattle.model.proofs.RuleLaws.{sound-eq, placed-eq, top-down-eq, defaults-eq, ranges-eq, quiet-eq, top-down-after-control, quiet-after-set, on-other}
 use Rattle.model.proofs.SettingLaws.{default-of-reset, default-after-reset, range-after-reset}
 
@@ -64,6 +66,17 @@ module _ (t : Tree) (g : ℕ) (set gone : Controls) where
 
   pub parent-after-control : parents (controlled t g set gone) ≡ parents t
   parent-after-control = part-kept (λ x. x .core .parent) (λ _ _. refl) refl
+
+  pub owner-after-control : owners (controlled t g set gone) ≡ owners t
+  owner-after-control = part-kept (λ x. x .owner) (λ _ _. refl) refl
+
+  own-after-control : (k : ℕ) → ownPages (cores (controlled t g set gone) k) ≡ ownPages (cores t k)
+  own-after-control k = ap (λ f. f k) (part-kept (λ x. ownPages (x .core)) (λ _ _. refl) refl)
+
+  pub amount-after-control : (r : Resource) (a : ℕ)
+      → amount (cores (controlled t g set gone)) (places t) r a ≡ amount (cores t) (places t) r a
+  amount-after-control =
+      amount-same (cores t) (cores (controlled t g set gone)) (places t) (λ k. ap (λ f. f k) parent-after-control) own-after-control
 
   pub set-after-control : sets (controlled t g set gone) ≡ upd (sets t) g set
   set-after-control = fun-ext (part-controlled (λ x. x .set) (λ _ _. refl)) ∙ upd-map (λ x. x .set) (t .group) g _
@@ -131,13 +144,6 @@ module _ (t : Tree) (g : ℕ) (set gone : Controls) where
                     reset-other t g gone k _ n ∙ upd-other (t .group) g _ k (λ e. clash (lives t k) (rw e (q .alive)) dead) ∙ w .blank .dead k dead;
                 free = w .blank .free;
               };
-          owned = ap (λ f. f 0) (part-kept (λ x. x .owner) (λ _ _. refl) refl) ∙ w .owned;
-          sized =
-              record {
-                size = w .sized .size;
-                fits =
-                    rw (usage-same (cores t) (cores (controlled t g set gone)) (λ k. ap (λ f. f k) parent-after-control)
-                    (λ k. ap (λ f. f k) (part-kept (λ x. ownPages (x .core)) (λ _ _. refl) refl)) 0)
-                    (w .sized .fits);
-              };
+          owned = ap (λ f. f 0) owner-after-control ∙ w .owned;
+          sized = record { size = w .sized .size; fits = rw (amount-after-control Pages 0) (w .sized .fits) };
         }

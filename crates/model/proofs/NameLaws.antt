@@ -1,7 +1,11 @@
--- Laws of the names of controllers, settings and files: each name finds what it names, by computation.
--- Assumes nothing.
-use mathlib.Core.Option.{some}
-use mathlib.Core.Path.{_≡_, refl}
+-- Laws of the names of controllers, settings and files: each name finds what it names, by computation, and what is found has
+-- the name. Assumes nothing.
+use Prim.Native.Nat.{ℕ}
+use mathlib.Core.Bool.{true, false}
+use mathlib.Core.List.{List, [], _∷_}
+use mathlib.Core.Option.{Option, none, some}
+use mathlib.Core.Path.{_≡_, refl, ap, _∙_}
+use native.Mathlib.Omega.{arith}
 use Rattle.model.specs.Text.{sameBytes}
 use Rattle.model.specs.Names.{controllerName, settingName, fileName, named, controllerNamed, settingNamed, fileNamed}
 use Rattle.model.specs.declared.Resource.the-variants.{Pages, Processes}
@@ -11,6 +15,8 @@ use Rattle.model.specs.declared.Setting.{Setting}
 use Rattle.model.specs.declared.Setting.the-variants.{CpuWeight, CpuMax, Max}
 use Rattle.model.specs.declared.File.{File}
 use Rattle.model.specs.declared.File.the-variants.{Procs, Controllers, SubtreeControl, Events, Current, Value}
+use Rattle.model.proofs.FunctionLaws.{split}
+use Rattle.model.proofs.TextLaws.{sameBytes→≡}
 
 pub controllerNamed-controllerName : (c : Controller) → controllerNamed (controllerName c) ≡ some c
 unfolding named sameBytes
@@ -37,3 +43,14 @@ fileNamed-fileName (Value CpuWeight) = refl
 fileNamed-fileName (Value CpuMax) = refl
 fileNamed-fileName (Value (Max Pages)) = refl
 fileNamed-fileName (Value (Max Processes)) = refl
+
+pub named-name : {A : Type 0} (name : A → List ℕ) (w : List ℕ) (as′ : List A) (a : A) → named name w as′ ≡ some a → w ≡ name a
+unfolding named
+named-name name w [] a e = let z : _≡_ {A = ℕ} 0 1 = cc in absurd (omega arith)
+named-name name w (x ∷ xs) a e =
+    split (sameBytes w (name x))
+    (λ y. let d : x ≡ a = some-same (rw y at e) in sameBytes→≡ w (name x) y ∙ ap name d)
+    (λ n. named-name name w xs a (rw n at e))
+  where
+    some-same : some x ≡ some a → x ≡ a
+    some-same h = cc

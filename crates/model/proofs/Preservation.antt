@@ -36,6 +36,14 @@ cores-after-remove t g =
     upd-map (λ x. x .core) (upd (t .group) (parents t g) _) g noGroup
     ∙ ap (λ f. upd f g noCore) (upd-map (λ x. x .core) (t .group) (parents t g) _)
 
+-- a part of a group that holds no pages
+pub part-after-remove : {A : Type 0} (t : Tree) (g : ℕ) (F : Group → A)
+    → F (charged (t .group g .core .own) (t .group (parents t g))) ≡ F (t .group (parents t g))
+    → _≡_ {A = ℕ → A} (λ j. F (removed t g .group j)) (upd (λ j. F (t .group j)) g (F noGroup))
+part-after-remove t g F e =
+    upd-map F (upd (t .group) (parents t g) _) g noGroup
+    ∙ ap (λ f. upd f g (F noGroup)) (fun-ext (upd-keeps F (t .group) (parents t g) _ e))
+
 module _ (t : Tree) (w : WellFormed t) where
   -- A group changed in place.
   module _ (g : ℕ) (v : Group) (k : Patch t g v) where
@@ -160,12 +168,6 @@ module _ (t : Tree) (w : WellFormed t) where
     abbrev heir : Group
     heir = charged (t .group g .core .own) (t .group (parents t g))
 
-    part-left : {A : Type 0} (F : Group → A) → F heir ≡ F (t .group (parents t g))
-        → _≡_ {A = ℕ → A} (λ j. F (removed t g .group j)) (upd (λ j. F (t .group j)) g (F noGroup))
-    part-left F e =
-        upd-map F (upd (t .group) (parents t g) heir) g noGroup
-        ∙ ap (λ f. upd f g (F noGroup)) (fun-ext (upd-keeps F (t .group) (parents t g) heir e))
-
     gone : (x : ℕ) → upd (lives t) g false x ≡ true → x ≢ g
     gone x l e = clash (upd (lives t) g false x) l (rw (e, upd-same))
 
@@ -173,26 +175,26 @@ module _ (t : Tree) (w : WellFormed t) where
     well-formed-after-remove =
         record {
           sound =
-              sound-eq (part-left (λ x. x .core .live) refl) (part-left (λ x. x .core .parent) refl) (part-left (λ x. x .depth) refl)
+              sound-eq (part-after-remove t g (λ x. x .core .live) refl) (part-after-remove t g (λ x. x .core .parent) refl) (part-after-remove t g (λ x. x .depth) refl)
               (sound-after-remove (w .sound) g gz nc);
-          placed = placed-eq (part-left (λ x. x .core .live) refl) refl (placed-after-remove (w .sound) g gz nc np (w .placed));
+          placed = placed-eq (part-after-remove t g (λ x. x .core .live) refl) refl (placed-after-remove (w .sound) g gz nc np (w .placed));
           topDown =
-              top-down-eq (part-left (λ x. x .core .live) refl) (part-left (λ x. x .core .parent) refl) (part-left (λ x. x .set) refl)
+              top-down-eq (part-after-remove t g (λ x. x .core .live) refl) (part-after-remove t g (λ x. x .core .parent) refl) (part-after-remove t g (λ x. x .set) refl)
               (top-down-after-remove (w .sound) g gz nc (w .topDown));
           defaults =
-              defaults-eq (part-left (λ x. x .core .live) refl) (part-left (λ x. x .core .parent) refl) (part-left (λ x. x .set) refl) (part-left settingsOf refl)
+              defaults-eq (part-after-remove t g (λ x. x .core .live) refl) (part-after-remove t g (λ x. x .core .parent) refl) (part-after-remove t g (λ x. x .set) refl) (part-after-remove t g settingsOf refl)
               (defaults-frame (w .defaults) _ _ _ _
               (λ c h l. let ne : h ≢ g = gone h l in
               let k : lives t h ≡ true = rw (upd-other (lives t) g false h ne) at l in
               inr (k, (λ nz. rw (upd-other (parents t) g 0 h ne, upd-other (sets t) g noControls (parents t h) (nc h k nz))), upd-other (settingsAt t) g (settingsOf noGroup) h ne)));
           ranges =
-              ranges-eq (part-left (λ x. x .core .live) refl) (part-left settingsOf refl)
+              ranges-eq (part-after-remove t g (λ x. x .core .live) refl) (part-after-remove t g settingsOf refl)
               (record {
                 within = λ s h l.
                     let ne : h ≢ g = gone h l in
                     rw (upd-other (settingsAt t) g (settingsOf noGroup) h ne) (w .ranges .within s h (rw (upd-other (lives t) g false h ne) at l));
               });
-          quiet = quiet-eq refl (part-left (λ x. x .set) refl) (quiet-after-set g noControls (w .quiet) (λ _ _ _ _. refl));
+          quiet = quiet-eq refl (part-after-remove t g (λ x. x .set) refl) (quiet-after-set g noControls (w .quiet) (λ _ _ _ _. refl));
           blank =
               record {
                 dead =
@@ -202,7 +204,7 @@ module _ (t : Tree) (w : WellFormed t) where
                 free = w .blank .free;
               };
           owned =
-              ap (λ f. f 0) (part-left (λ x. x .owner) refl) ∙ upd-other (owners t) g 0 0 (λ e. gz (sym e)) ∙ w .owned;
+              ap (λ f. f 0) (part-after-remove t g (λ x. x .owner) refl) ∙ upd-other (owners t) g 0 0 (λ e. gz (sym e)) ∙ w .owned;
           sized =
               record {
                 size = w .sized .size;

@@ -13,7 +13,7 @@ use Rattle.model.proofs.FunctionLaws.{whether, clash, upd-same, upd-oth
 use Rattle.model.proofs.AmountLaws.{usage-fresh}
 use Rattle.model.proofs.SettingLaws.{default-new, range-new}
 use Rattle.model.proofs.Steps.{well-formed-run}
-use Rattle.model.proofs.Books.{tree-after-more}
+use Rattle.model.proofs.Books.{run-more}
 
 module _ (m : ℕ) where
   -- the root alone is live
@@ -74,5 +74,5 @@ reached-step t c r =
     record {
       size = r .size;
       calls = r .calls ++ (c ∷ []);
-      made = tree-after-more (r .size) (r .calls) c ∙ ap (λ x. step x c) (r .made);
+      made = run-more (r .calls) (fresh (r .size)) c ∙ ap (λ x. step x c) (r .made);
     }

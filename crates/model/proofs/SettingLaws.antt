@@ -63,7 +63,7 @@ put-shown (Max r) st =
     (fun-ext (withLimit-all (λ x l. l ≡ st .limit x) r _ (st .limit) (mapLimit-back r (st .limit r)) (λ x. refl)))
 
 -- Which setting a value is for.
-abbrev settingOf : SettingValue → Setting
+abbrev pub settingOf : SettingValue → Setting
 settingOf (weight n) = CpuWeight
 settingOf (bandwidth q p) = CpuMax
 settingOf (maximum r l) = Max r
@@ -93,7 +93,7 @@ valueOf-is-for CpuMax (w ∷ v ∷ []) = bandwidthOf-is-for (limitWord w) (numbe
 valueOf-is-for (Max r) (w ∷ v ∷ []) = tt
 valueOf-is-for s (w ∷ v ∷ u ∷ us) = tt
 
-settingOf-valueOf : (s : Setting) (ws : List (List ℕ)) (v : SettingValue) → valueOf s ws ≡ some v → settingOf v ≡ s
+pub settingOf-valueOf : (s : Setting) (ws : List (List ℕ)) (v : SettingValue) → valueOf s ws ≡ some v → settingOf v ≡ s
 settingOf-valueOf s ws v e = subst (IsFor s) e (valueOf-is-for s ws)
 
 -- Defaults.

@@ -1,13 +1,15 @@
 -- The book of demand 3, in document 01's word ("The book of demand 3"): a ledger that is fed the machine size, then each
--- call's arguments and the number it answered, and nothing else. It is written from its own paragraph: it shares types and
--- the reading of lines with the calls, and none of their effects. Assumes nothing.
+-- call's arguments and the number it answered, and nothing else. It is written from its own paragraph and shares none of the
+-- calls' effects. With the calls it shares types, sums (`usage`, `amount`), who is a child (`childOf`), where a process stands
+-- (`groupOf`), whose limit counts what (`controllerOf`), and the reading of lines (`lineProcess`, `lineValue`, `asked`,
+-- `isDropped`, `toAmount`, `mapLimit`). Assumes nothing.
 use Prim.Native.Nat.{ℕ, zero, suc, _+_, _-_, min}
 use mathlib.Core.Bool.{true, false}
 use mathlib.Core.List.{List, [], _∷_}
 use mathlib.Core.Option.{Option, none, some}
 use Rattle.model.specs.Functions.{upd, pick}
 use Rattle.model.specs.Sizes.{largestMachine}
-use Rattle.model.specs.Tree.{Core, Place, nowhere, at, groupOf, controllerOf}
+use Rattle.model.specs.Tree.{Tree, Core, Place, nowhere, at, groupOf, controllerOf, cores, places}
 use Rattle.model.specs.Hierarchy.{usage, amount, childOf}
 use Rattle.model.specs.Control.{asked, isDropped}
 use Rattle.model.specs.Settings.{SettingValue, weight, bandwidth, maximum, mapLimit, toAmount}
@@ -127,6 +129,10 @@ freshBook m =
       mark = λ g. 0;
       place = λ p. nowhere;
     }
+
+-- The book of a tree, for a list of calls that begins there: what the tree keeps, each limit taken as written at that moment.
+abbrev pub bookOf : Tree → Book
+bookOf t = record { machine = t .machine; group = cores t; mark = usage (cores t); place = places t }
 
 pub record Entry : Type 0 where
   pub call : Call

@@ -4,10 +4,10 @@ use Prim.Native.Nat.{ℕ, suc, _≤_, max}
 use mathlib.Core.Bool.{true, false}
 use mathlib.Core.List.{List, [], _∷_, _++_}
 use mathlib.Core.Logic.{_≢_}
-use mathlib.Core.Option.{Option, none, some}
+use mathlib.Core.Option.{none, some}
 use mathlib.Core.Path.{_≡_}
 use Rattle.model.specs.Checks.{errnoNumber, Says}
-use Rattle.model.specs.Tree.{Tree, depths, at, groupOf, controllerOf, cores, lives, parents, owners, places}
+use Rattle.model.specs.Tree.{Tree, depths, groupOf, controllerOf, cores, lives, parents, places}
 use Rattle.model.specs.Hierarchy.{chain, commonAncestor, on, inside, amount, factsOf}
 use Rattle.model.specs.Text.{ended, decimal}
 use Rattle.model.specs.Names.{settingName, fileName}
@@ -15,11 +15,15 @@ use Rattle.model.specs.Settings.{settingController, toFigure}
 use Rattle.model.specs.Rooms.{over, actingLimit, Stopped, shortage}
 use Rattle.model.specs.Rules.{mayWrite, processGroup}
 use Rattle.model.specs.Files.{contents, fits}
-use Rattle.model.specs.Calls.{Call, make, remove, handOver, writeProcs, writeControl, writeSetting, admit, fork, exit, charge, release, read, membership, checks, verdict}
+use Rattle.model.specs.Calls.{Call, writeSetting, admit, fork, charge, read, checks, verdict}
 use Rattle.model.specs.Effects.{effect, step, fresh, run}
 use Rattle.model.specs.Replies.{reply, textReply, bufferOf}
 use Rattle.model.specs.WellFormed.{WellFormed}
-use Rattle.model.specs.Book.{Book, inBook, Entry, freshBook, fed}
+use Rattle.model.specs.Book.{Book, inBook, freshBook, bookOf}
+use Rattle.model.specs.Lists.{Accepted, log, bookAfter}
+use Rattle.model.specs.Containment.{OwnsInside, Contained, NeverAcross}
+use Rattle.model.specs.Marks.{AtLastWrite, MarkIs}
+use Rattle.model.specs.Totals.{Balanced}
 use Rattle.model.specs.declared.Resource.{Resource}
 use Rattle.model.specs.declared.Resource.the-variants.{Pages, Processes}
 use Rattle.model.specs.declared.Limit.the-variants.{Figure}
@@ -72,32 +76,6 @@ pub record WriteBack (t : Tree) : Type 0 where
   pub same : (user g : ℕ) (s : Setting) → lives t g ≡ true → on t (settingController s) g ≡ true
       → mayWrite t user (parents t g) ≡ true → step t (writtenBack t user g s) ≡ t
 
--- the user that makes a call, where one does
-abbrev pub caller : Call → Option ℕ
-caller (make user parent new) = some user
-caller (remove user g) = some user
-caller (handOver user g owner) = some user
-caller (writeProcs user g line) = some user
-caller (writeControl user g line) = some user
-caller (writeSetting user g file line) = some user
-caller (admit p user) = none
-caller (fork p new) = none
-caller (exit p) = none
-caller (charge p n) = none
-caller (release g n) = none
-caller (read g file buffer) = none
-caller (membership p buffer) = none
-
--- "A user other than 0, all of whose groups lie inside one handed-over part, never moves a process across that part's edge."
--- The part is d and all below it; a call in which nobody is named moves no process either.
-abbrev pub OwnsInside : Tree → ℕ → ℕ → Type 0
-OwnsInside t user d = (g : ℕ) → lives t g ≡ true → owners t g ≡ user → inside (parents t) d g ≡ true
-
-pub record Contained (t : Tree) : Type 0 where
-  pub across : (user d : ℕ) (c : Call) → user ≢ 0 → OwnsInside t user d → caller c ≡ some user
-      → (p g h : ℕ) → places t p ≡ at g → places (step t c) p ≡ at h → inside (parents t) d g ≡ inside (parents t) d h
-  pub nobody : (c : Call) → caller c ≡ none → (p g h : ℕ) → places t p ≡ at g → places (step t c) p ≡ at h → g ≡ h
-
 -- a call that asks for n more of a resource, and the process that it asks for
 pub data Asks : Resource → ℕ → ℕ → Call → Type 0 where
   forCharge : {p n : ℕ} → Asks Pages n p (charge p n)
@@ -109,12 +87,15 @@ StoppedAt t r n g h k =
     (i : ℕ) × (k ≡ suc i) × Stopped (actingLimit t r) (factsOf t .amount r) n (chain (parents t) g) h i
 
 -- "the first group, going up, that had no room, and the number of groups consulted: up to and including that group, or depth
--- plus one on success. Any other refusal names no group and counts 0; success names none."
+-- plus one on success. Any other refusal names no group and counts 0; success names none." A group is told exactly where the
+-- number is 12 of a charge or 11 of a fork.
 pub record Counted (t : Tree) : Type 0 where
   pub success : (r : Resource) (n p : ℕ) (c : Call) → Asks r n p c → reply t c .number ≡ 0
       → (reply t c .consulted ≡ suc (depths t (processGroup t p))) × (reply t c .group ≡ none)
   pub stopped : (r : Resource) (n p h : ℕ) (c : Call) → Asks r n p c → reply t c .group ≡ some h
       → (reply t c .number ≡ errnoNumber (shortage r)) × StoppedAt t r n (processGroup t p) h (reply t c .consulted)
+  pub named : (r : Resource) (n p : ℕ) (c : Call) → Asks r n p c → reply t c .number ≡ errnoNumber (shortage r)
+      → (h : ℕ) × (reply t c .group ≡ some h) × StoppedAt t r n (processGroup t p) h (reply t c .consulted)
   pub other : (r : Resource) (n p : ℕ) (c : Call) → Asks r n p c → reply t c .number ≢ 0 → reply t c .group ≡ none
       → reply t c .consulted ≡ 0
 
@@ -131,18 +112,9 @@ pub record Demand2 : Type 0 where
   pub lowest : (t : Tree) → WellFormed t → Lowest t
   pub writeBack : (t : Tree) → WellFormed t → WriteBack t
   pub contained : (t : Tree) → WellFormed t → Contained t
+  pub never : (t : Tree) → WellFormed t → NeverAcross t
 
--- Demand 3. The calls with the numbers that they answered, and the tree and the book after them.
-unfoldable pub log : Tree → List Call → List Entry
-log t [] = []
-log t (c ∷ cs) = record { call = c; number = reply t c .number } ∷ log (step t c) cs
-
-abbrev pub treeAfter : ℕ → List Call → Tree
-treeAfter m cs = run (fresh m) cs
-
-abbrev pub bookAfter : ℕ → List Call → Book
-bookAfter m cs = fed (freshBook m) (log (fresh m) cs)
-
+-- Demand 3.
 -- "tree and book are alike in live groups, parents, own pages, usage, both limits, each live process's group and the live
 -- processes inside each group. Where on, memory.current shows the book's usage in bytes, and pids.current the book's live
 -- processes inside."
@@ -175,16 +147,27 @@ pub data Adds : Resource → ℕ → Call → Type 0 where
 abbrev pub NoneOver : Resource → Book → ℕ → Type 0
 NoneOver r b g = (a : ℕ) → inside (λ k. b .group k .parent) a g ≡ true → over (inBook b r a) (b .group a .limit r) ≡ false
 
--- "After every list of calls from a fresh tree of any size, refused ones included."
-pub record Demand3 (m : ℕ) (cs : List Call) : Type 0 where
-  pub alike : Alike (treeAfter m cs) (bookAfter m cs)
-  pub bounded : Bounded (bookAfter m cs)
+-- After every list of calls on t, "refused ones included", where b was the book before it.
+pub record Demand3 (t : Tree) (b : Book) (cs : List Call) : Type 0 where
+  pub alike : Alike (run t cs) (bookAfter t b cs)
+  pub bounded : Bounded (bookAfter t b cs)
+  pub mark : (g l : ℕ) → bookAfter t b cs .group g .limit Pages ≡ Figure l → MarkIs t cs g l (bookAfter t b cs .mark g)
   pub accepted : (r : Resource) (p : ℕ) (c : Call) (xs ys : List Call) → Adds r p c → cs ≡ xs ++ (c ∷ ys)
-      → reply (treeAfter m xs) c .number ≡ 0
-      → NoneOver r (bookAfter m (xs ++ (c ∷ []))) (groupOf (bookAfter m (xs ++ (c ∷ [])) .place p))
+      → Accepted (run t xs) c
+      → NoneOver r (bookAfter t b (xs ++ (c ∷ []))) (groupOf (bookAfter t b (xs ++ (c ∷ [])) .place p))
+  pub balanced : Balanced t (log t cs) (run t cs)
+
+-- "Take every list of calls .. from a fresh tree of whatever machine size." Where the list begins a group has no limit, so each
+-- mark is from a write, and a user other than 0 owns nothing.
+pub record FromFresh (m : ℕ) : Type 0 where
+  pub third : (cs : List Call) → Demand3 (fresh m) (freshBook m) cs
+  pub mark : (cs : List Call) (g l : ℕ) → bookAfter (fresh m) (freshBook m) cs .group g .limit Pages ≡ Figure l
+      → AtLastWrite (fresh m) cs g (bookAfter (fresh m) (freshBook m) cs .mark g)
+  pub owns : (user d : ℕ) → user ≢ 0 → OwnsInside (fresh m) user d
 
 pub record Demands : Type 0 where
   pub reaching : Reaching
   pub first : Demand1
   pub second : Demand2
-  pub third : (m : ℕ) (cs : List Call) → Demand3 m cs
+  pub third : (t : Tree) → WellFormed t → (cs : List Call) → Demand3 t (bookOf t) cs
+  pub fresh : (m : ℕ) → FromFresh m

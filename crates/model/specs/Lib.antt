@@ -15,6 +15,10 @@ pub mod Effects
 pub mod Replies
 pub mod Book
 pub mod WellFormed
+pub mod Lists
+pub mod Containment
+pub mod Marks
+pub mod Totals
 pub mod Demands
 pub mod Worked
 pub mod Refusals

@@ -1,0 +1,264 @@
+-- The mark of a group is the usage that it had right after the last accepted write of memory.max to it: no other call moves it, and
+-- no other call gives a page limit. Assumes nothing.
+use Prim.Native.Nat.{ℕ}
+use native.Mathlib.Omega.{arith}
+use mathlib.Core.Bool.{Bool, true, false}
+use mathlib.Core.List.{List, [], _∷_}
+use mathlib.Core.Logic.{_≢_, _⊎_, inl, inr, ⊎-elim}
+use mathlib.Core.Option.{Option, none, some}
+use mathlib.Core.Path.{_≡_, refl, ap, ap₂, sym, _∙_}
+use Rattle.model.specs.Functions.{upd, known}
+use Rattle.model.specs.Checks.{Pass, answerNumber}
+use Rattle.model.specs.Tree.{Tree, Core, cores, places}
+use Rattle.model.specs.Hierarchy.{usage, factsOf}
+use Rattle.model.specs.Text.{bytes, lineWords}
+use Rattle.model.specs.Names.{settings, settingName, settingNamed}
+use Rattle.model.specs.Settings.{SettingValue, weight, bandwidth, maximum}
+use Rattle.model.specs.Calls.{Call, make, remove, handOver, writeProcs, writeControl, writeSetting, admit, fork, exit, charge, release, read, membership, settingValue, lineValue, checks, verdict}
+use Rattle.model.specs.Effects.{effect, step, run}
+use Rattle.model.specs.Replies.{reply}
+use Rattle.model.specs.Book.{Book, enterValue, enter, bookStep, bookOf, fed}
+use Rattle.model.specs.WellFormed.{WellFormed}
+use Rattle.model.specs.Lists.{log, bookAfter, Each, Never, Last}
+use Rattle.model.specs.Marks.{SetsMemoryMax, AtLastWrite, MarkIs}
+use Rattle.model.specs.declared.Resource.the-variants.{Pages, Processes}
+use Rattle.model.specs.declared.Limit.{Limit}
+use Rattle.model.specs.declared.Limit.the-variants.{NoLimit, Figure}
+use Rattle.model.specs.declared.Setting.{Setting}
+use Rattle.model.specs.declared.Setting.the-variants.{Max}
+use Rattle.model.specs.declared.Errno.{Errno}
+use Rattle.model.specs.declared.Answer.the-variants.{Done, Refused}
+use Rattle.model.proofs.FunctionLaws.{whether, clash, upd-same, upd-other}
+use Rattle.model.proofs.CheckLaws.{errno-positive}
+use Rattle.model.proofs.NameLaws.{named-name, settingNamed-settingName}
+use Rattle.model.proofs.SettingLaws.{settingOf, settingOf-valueOf}
+use Rattle.model.proofs.SettingPreservation.{amount-after-setting}
+use Rattle.model.proofs.RoomLaws.{no-figure}
+use Rattle.model.proofs.Steps.{step-accepted, step-refused, by-verdict, passed}
+use Rattle.model.proofs.Books.{reply-number, book-step-accepted, book-step-refused}
+use Rattle.model.proofs.Bounds.{child-limit-after}
+use Rattle.model.proofs.States.{State, state-begin, state-step}
+
+-- The file whose line gave a value is the value's own.
+pub file-of-value : (file line : List ℕ) (v : SettingValue) → lineValue file line ≡ some v → file ≡ settingName (settingOf v)
+file-of-value file line v e = go (settingNamed file) refl e
+  where
+    go : (o : Option Setting) → settingNamed file ≡ o → settingValue o line ≡ some v → file ≡ settingName (settingOf v)
+    go none n h = let z : _≡_ {A = ℕ} 0 1 = cc in absurd (omega arith)
+    go (some s) n h = named-name settingName file settings s n ∙ ap settingName (sym (settingOf-valueOf s (lineWords line) v h))
+
+-- Which calls write a setting at all.
+abbrev writesSetting : Call → Bool
+writesSetting (make user parent new) = false
+writesSetting (remove user g) = false
+writesSetting (handOver user g owner) = false
+writesSetting (writeProcs user g line) = false
+writesSetting (writeControl user g line) = false
+writesSetting (writeSetting user g file line) = true
+writesSetting (admit p user) = false
+writesSetting (fork p new) = false
+writesSetting (exit p) = false
+writesSetting (charge p n) = false
+writesSetting (release g n) = false
+writesSetting (read g file buffer) = false
+writesSetting (membership p buffer) = false
+
+-- A limit that a change of one group leaves or takes away stood there before.
+abbrev Kept : (ℕ → Core) → (ℕ → Core) → ℕ → Type 0
+Kept s s′ g = (l : ℕ) → s′ g .limit Pages ≡ Figure l → s g .limit Pages ≡ Figure l
+
+kept-taken : (s : ℕ → Core) (i : ℕ) (v : Core) → v .limit Pages ≡ NoLimit → (g : ℕ) → Kept s (upd s i v) g
+kept-taken s i v e g l h =
+    whether g i
+    (λ d. no-figure _ l e (ap (λ c. c .limit Pages) (sym (upd-same s i v)) ∙ rw d at h))
+    (λ ne. ap (λ c. c .limit Pages) (sym (upd-other s i v g ne)) ∙ h)
+
+kept-left : (s : ℕ → Core) (i : ℕ) (v : Core) → v .limit Pages ≡ s i .limit Pages → (g : ℕ) → Kept s (upd s i v) g
+kept-left s i v e g l h =
+    whether g i
+    (λ d. rw d (sym e ∙ ap (λ c. c .limit Pages) (sym (upd-same s i v)) ∙ rw d at h))
+    (λ ne. ap (λ c. c .limit Pages) (sym (upd-other s i v g ne)) ∙ h)
+
+module _ (b : Book) (g : ℕ) where
+  -- an accepted call that leaves the mark of g, and gives it no limit
+  record Leaves (c : Call) : Type 0 where
+    mark : enter b c .mark g ≡ b .mark g
+    limit : Kept (b .group) (enter b c .group) g
+
+  -- a value written to h
+  value-left : (h : ℕ) (v : Option SettingValue) → ((l : Limit) → v ≡ some (maximum Pages l) → h ≡ g → ⊥)
+      → (enterValue b h v .mark g ≡ b .mark g) × Kept (b .group) (enterValue b h v .group) g
+  value-left h none n = (refl, λ l e. e)
+  value-left h (some (weight x)) n = (refl, λ l e. e)
+  value-left h (some (bandwidth q p)) n = (refl, λ l e. e)
+  value-left h (some (maximum Pages x)) n =
+      let ne : g ≢ h = (λ e. n x refl (sym e)) in
+      (upd-other (b .mark) h _ g ne, λ l e. ap (λ c. c .limit Pages) (sym (upd-other (b .group) h _ g ne)) ∙ e)
+  value-left h (some (maximum Processes x)) n = (refl, kept-left (b .group) h _ refl g)
+
+  call-left : (c : Call) → writesSetting c ≡ false → Leaves c
+  unfolding enter
+  call-left (make user parent new) n = record { mark = refl; limit = kept-taken (b .group) new _ refl g }
+  call-left (remove user h) n =
+      record {
+        mark = refl;
+        limit = λ l e. kept-left (b .group) (b .group h .parent) _ refl g l (kept-taken _ h _ refl g l e);
+      }
+  call-left (handOver user h owner) n = record { mark = refl; limit = λ l e. e }
+  call-left (writeProcs user h line) n = record { mark = refl; limit = λ l e. e }
+  call-left (writeControl user h line) n =
+      record {
+        mark = refl;
+        limit = λ l e. ⊎-elim (λ x. no-figure _ l x e) (λ x. sym x ∙ e) (child-limit-after h line g (b .group g));
+      }
+  call-left (writeSetting user h file line) n = clash true refl n
+  call-left (admit p user) n = record { mark = refl; limit = λ l e. e }
+  call-left (fork p new) n = record { mark = refl; limit = λ l e. e }
+  call-left (exit p) n = record { mark = refl; limit = λ l e. e }
+  call-left (charge p x) n = record { mark = refl; limit = kept-left (b .group) _ _ refl g }
+  call-left (release h x) n = record { mark = refl; limit = kept-left (b .group) h _ refl g }
+  call-left (read h file buffer) n = record { mark = refl; limit = λ l e. e }
+  call-left (membership p buffer) n = record { mark = refl; limit = λ l e. e }
+
+-- Names of two settings are not the same bytes.
+setting-of-name : (x y : Setting) → settingName x ≡ settingName y → x ≡ y
+setting-of-name x y e =
+    let f : some x ≡ some y = sym (settingNamed-settingName x) ∙ ap settingNamed e ∙ settingNamed-settingName y in
+    cc
+
+-- A call by whether it is an accepted write of memory.max to g.
+module _ (t : Tree) (b : Book) (s : State t b) (g : ℕ) where
+  abbrev after : Call → Book
+  after c = bookStep b c (reply t c .number)
+
+  -- one that is not
+  record Other (c : Call) : Type 0 where
+    unset : SetsMemoryMax g t c → ⊥
+    mark : after c .mark g ≡ b .mark g
+    limit : Kept (b .group) (after c .group) g
+
+  abbrev Decided : Call → Type 0
+  Decided c = (SetsMemoryMax g t c × (after c .mark g ≡ usage (cores (step t c)) g)) ⊎ Other c
+
+  refused-other : (c : Call) (x : Errno) → verdict t c ≡ Refused x → Other c
+  refused-other c x e =
+      record {
+        unset = λ w. errno-positive x (sym (reply-number t c ∙ ap answerNumber e) ∙ w .accepted);
+        mark = ap (λ y. y .mark g) (book-step-refused t b c x e);
+        limit = λ l h. ap (λ y. y .group g .limit Pages) (sym (book-step-refused t b c x e)) ∙ h;
+      }
+
+  module _ (c : Call) (e : verdict t c ≡ Done) where
+    accepted-other : (SetsMemoryMax g t c → ⊥) → enter b c .mark g ≡ b .mark g → Kept (b .group) (enter b c .group) g → Other c
+    accepted-other n m f =
+        record {
+          unset = n;
+          mark = ap (λ y. y .mark g) (book-step-accepted t b c e) ∙ m;
+          limit = λ l h. f l (ap (λ y. y .group g .limit Pages) (sym (book-step-accepted t b c e)) ∙ h);
+        }
+
+    no-setting : writesSetting c ≡ false → Decided c
+    no-setting n =
+        let q = call-left b g c n in
+        inr (accepted-other (λ w. clash (writesSetting c) (ap writesSetting (w .call)) n) (q .mark) (q .limit))
+
+  module _ (user h : ℕ) (file line : List ℕ) (e : verdict t (writeSetting user h file line) ≡ Done) where
+    abbrev written : Call
+    written = writeSetting user h file line
+
+    -- another setting, or another group
+    other-value : (v : SettingValue) → lineValue file line ≡ some v → (settingOf v ≡ Max Pages → h ≡ g → ⊥) → Decided written
+    unfolding enter
+    other-value v p n =
+        let f : file ≡ settingName (settingOf v) = file-of-value file line v p in
+        let q = value-left b g h (lineValue file line) (λ l y. n (ap valueSetting (sym p ∙ y))) in
+        inr (accepted-other written e (λ w. n (setting-of-name (settingOf v) (Max Pages) (sym f ∙ file-of w)) (group-of w)) (q .0) (q .1))
+      where
+        valueSetting : Option SettingValue → Setting
+        valueSetting none = Max Pages
+        valueSetting (some x) = settingOf x
+
+        file-of : SetsMemoryMax g t written → file ≡ settingName (Max Pages)
+        file-of w = cc
+
+        group-of : SetsMemoryMax g t written → h ≡ g
+        group-of w = cc
+
+    this-value : (l : Limit) → lineValue file line ≡ some (maximum Pages l) → h ≡ g → Decided written
+    unfolding enter effect
+    this-value l p d =
+        let f : file ≡ bytes "memory.max" = file-of-value file line (maximum Pages l) p in
+        let m : enter b written .mark g ≡ usage (b .group) g =
+        ap (λ v. enterValue b h v .mark g) p ∙ rw d (upd-same (b .mark) g (usage (b .group) g)) in
+        let u : usage (cores (step t written)) g ≡ usage (cores t) g =
+        ap (λ x. usage (cores x) g) (step-accepted t written e) ∙ amount-after-setting t h (lineValue file line) Pages g in
+        inl (
+          record {
+            user = user;
+            line = line;
+            call = ap₂ (λ x y. writeSetting user x y line) d f;
+            accepted = reply-number t written ∙ ap answerNumber e;
+          },
+          ap (λ y. y .mark g) (book-step-accepted t b written e) ∙ m ∙ ap (λ x. usage x g) (sym (s .same .groups)) ∙ sym u,
+        )
+
+    by-value : (v : Option SettingValue) → lineValue file line ≡ v → known v ≡ true → Decided written
+    by-value none p k = clash false k refl
+    by-value (some (weight n)) p k = other-value (weight n) p (λ x. let z : _≡_ {A = ℕ} 0 1 = cc in absurd (omega arith))
+    by-value (some (bandwidth q o)) p k = other-value (bandwidth q o) p (λ x. let z : _≡_ {A = ℕ} 0 1 = cc in absurd (omega arith))
+    by-value (some (maximum Pages l)) p k =
+        whether h g (λ d. this-value l p d) (λ ne. other-value (maximum Pages l) p (λ _. ne))
+    by-value (some (maximum Processes l)) p k = other-value (maximum Processes l) p (λ x. let z : _≡_ {A = ℕ} 0 1 = cc in absurd (omega arith))
+
+  accepted-decided : (c : Call) → verdict t c ≡ Done → Decided c
+  unfolding checks Pass
+  accepted-decided (make user parent new) e = no-setting _ e refl
+  accepted-decided (remove user h) e = no-setting _ e refl
+  accepted-decided (handOver user h owner) e = no-setting _ e refl
+  accepted-decided (writeProcs user h line) e = no-setting _ e refl
+  accepted-decided (writeControl user h line) e = no-setting _ e refl
+  accepted-decided (writeSetting user h file line) e =
+      let k = passed t (writeSetting user h file line) e in
+      by-value user h file line e (lineValue file line) refl (search)
+  accepted-decided (admit p user) e = no-setting _ e refl
+  accepted-decided (fork p new) e = no-setting _ e refl
+  accepted-decided (exit p) e = no-setting _ e refl
+  accepted-decided (charge p n) e = no-setting _ e refl
+  accepted-decided (release h n) e = no-setting _ e refl
+  accepted-decided (read h file buffer) e = no-setting _ e refl
+  accepted-decided (membership p buffer) e = no-setting _ e refl
+
+  decided : (c : Call) → Decided c
+  decided c = by-verdict t c (accepted-decided c) (λ x e. inr (refused-other c x e))
+
+-- Over a list: the last write, or none.
+record Unwritten (t : Tree) (b : Book) (cs : List Call) (g : ℕ) : Type 0 where
+  never : Never (SetsMemoryMax g) t cs
+  mark : bookAfter t b cs .mark g ≡ b .mark g
+  limit : Kept (b .group) (bookAfter t b cs .group) g
+
+written-or-not : (cs : List Call) (t : Tree) (b : Book) → State t b → (g : ℕ)
+    → AtLastWrite t cs g (bookAfter t b cs .mark g) ⊎ Unwritten t b cs g
+unfolding Each Last fed log
+written-or-not [] t b s g = inr (record { never = tt; mark = refl; limit = λ l e. e })
+written-or-not (c ∷ cs) t b s g =
+    let b′ : Book = bookStep b c (reply t c .number) in
+    ⊎-elim
+    (λ (y : AtLastWrite (step t c) cs g (bookAfter (step t c) b′ cs .mark g)). inl (inr y))
+    (λ (u : Unwritten (step t c) b′ cs g). ⊎-elim
+    (λ (y : SetsMemoryMax g t c × (b′ .mark g ≡ usage (cores (step t c)) g)). inl (inl (y .0, u .mark ∙ y .1, u .never)))
+    (λ (y : Other t b s g c). inr (record {
+      never = (y .unset, u .never);
+      mark = u .mark ∙ y .mark;
+      limit = λ l e. y .limit l (u .limit l e);
+    }))
+    (decided t b s g c))
+    (written-or-not cs (step t c) b′ (state-step t b c s) g)
+
+pub mark-is : (t : Tree) → WellFormed t → (cs : List Call) (g l : ℕ) → bookAfter t (bookOf t) cs .group g .limit Pages ≡ Figure l
+    → MarkIs t cs g l (bookAfter t (bookOf t) cs .mark g)
+mark-is t w cs g l e =
+    ⊎-elim
+    (λ y. inl y)
+    (λ (u : Unwritten t (bookOf t) cs g). inr (record { unwritten = u .never; limit = u .limit l e; marked = u .mark }))
+    (written-or-not cs t (bookOf t) (state-begin t w) g)

@@ -1,0 +1,60 @@
+-- Containment, the last sentence of demand 2: "A user other than 0, all of whose groups lie inside one handed-over part, never
+-- moves a process across that part's edge." Of one call, and of every list of calls. Assumes nothing.
+use Prim.Native.Nat.{ℕ}
+use mathlib.Core.Bool.{true, false}
+use mathlib.Core.List.{List}
+use mathlib.Core.Logic.{_≢_}
+use mathlib.Core.Option.{Option, none, some}
+use mathlib.Core.Path.{_≡_}
+use Rattle.model.specs.Tree.{Tree, at, lives, parents, owners, places}
+use Rattle.model.specs.Hierarchy.{inside}
+use Rattle.model.specs.Calls.{Call, make, remove, handOver, writeProcs, writeControl, writeSetting, admit, fork, exit, charge, release, read, membership}
+use Rattle.model.specs.Effects.{step, run}
+use Rattle.model.specs.Lists.{Accepted, Each, Never}
+
+-- the user that makes a call, where one does
+abbrev pub caller : Call → Option ℕ
+caller (make user parent new) = some user
+caller (remove user g) = some user
+caller (handOver user g owner) = some user
+caller (writeProcs user g line) = some user
+caller (writeControl user g line) = some user
+caller (writeSetting user g file line) = some user
+caller (admit p user) = none
+caller (fork p new) = none
+caller (exit p) = none
+caller (charge p n) = none
+caller (release g n) = none
+caller (read g file buffer) = none
+caller (membership p buffer) = none
+
+-- "all of whose groups lie inside one handed-over part": the part is d and all below it
+abbrev pub OwnsInside : Tree → ℕ → ℕ → Type 0
+OwnsInside t user d = (g : ℕ) → lives t g ≡ true → owners t g ≡ user → inside (parents t) d g ≡ true
+
+-- a process that stands somewhere before the call and after it is on the same side of d's edge
+abbrev pub NoneAcross : ℕ → Tree → Tree → Type 0
+NoneAcross d t u = (p g h : ℕ) → places t p ≡ at g → places u p ≡ at h → inside (parents t) d g ≡ inside (parents t) d h
+
+-- Of one call. Where nobody is named no process moves at all.
+pub record Contained (t : Tree) : Type 0 where
+  pub across : (user d : ℕ) (c : Call) → user ≢ 0 → OwnsInside t user d → caller c ≡ some user → NoneAcross d t (step t c)
+  pub nobody : (c : Call) → caller c ≡ none → (p g h : ℕ) → places t p ≡ at g → places (step t c) p ≡ at h → g ≡ h
+
+-- the one kind of call after which not all groups of the user lie inside d: an accepted hand over to him of a group outside
+pub record GivesOutside (user d : ℕ) (t : Tree) (c : Call) : Type 0 where
+  pub giver : ℕ
+  pub group : ℕ
+  pub call : c ≡ handOver giver group user
+  pub accepted : Accepted t c
+  pub outside : inside (parents t) d group ≡ false
+
+-- Of every list without such a hand over, whoever makes its calls: the user's groups stay inside, and no process crosses the
+-- edge by his hand.
+pub record ContainedOver (t : Tree) (user d : ℕ) (cs : List Call) : Type 0 where
+  pub owns : OwnsInside (run t cs) user d
+  pub across : Each (λ s c. caller c ≡ some user → NoneAcross d s (step s c)) t cs
+
+abbrev pub NeverAcross : Tree → Type 0
+NeverAcross t =
+    (user d : ℕ) (cs : List Call) → user ≢ 0 → OwnsInside t user d → Never (GivesOutside user d) t cs → ContainedOver t user d cs

@@ -1,0 +1,62 @@
+-- Nothing is lost: what accepted calls brought into the tree and took out of it, summed over a list of calls. Demand 3, "every
+-- group's pages equal those charged less those released .. Processes add up likewise", of the root. Assumes nothing.
+use Prim.Native.Nat.{ℕ, _+_}
+use mathlib.Core.List.{List, [], _∷_}
+use mathlib.Core.Path.{_≡_}
+use lib.Dec.{eqb}
+use Rattle.model.specs.Functions.{weigh}
+use Rattle.model.specs.Tree.{Tree, cores, places}
+use Rattle.model.specs.Hierarchy.{amount}
+use Rattle.model.specs.Calls.{Call, make, remove, handOver, writeProcs, writeControl, writeSetting, admit, fork, exit, charge, release, read, membership}
+use Rattle.model.specs.Book.{Entry}
+use Rattle.model.specs.declared.Resource.{Resource}
+use Rattle.model.specs.declared.Resource.the-variants.{Pages, Processes}
+
+-- what an accepted call brings into the tree or takes out of it: pages charged and released, births and exits
+pub data Flow : Type 0 where
+  none : Flow
+  into : Resource → ℕ → Flow
+  out : Resource → ℕ → Flow
+
+abbrev pub flow : Call → Flow
+flow (make user parent new) = none
+flow (remove user g) = none
+flow (handOver user g owner) = none
+flow (writeProcs user g line) = none
+flow (writeControl user g line) = none
+flow (writeSetting user g file line) = none
+flow (admit p user) = into Processes 1
+flow (fork p new) = into Processes 1
+flow (exit p) = out Processes 1
+flow (charge p n) = into Pages n
+flow (release g n) = out Pages n
+flow (read g file buffer) = none
+flow (membership p buffer) = none
+
+-- n where the two are one resource
+abbrev pub ofResource : Resource → Resource → ℕ → ℕ
+ofResource Pages Pages n = n
+ofResource Pages Processes n = 0
+ofResource Processes Pages n = 0
+ofResource Processes Processes n = n
+
+abbrev pub brought : Resource → Flow → ℕ
+brought r none = 0
+brought r (into s n) = ofResource r s n
+brought r (out s n) = 0
+
+abbrev pub taken : Resource → Flow → ℕ
+taken r none = 0
+taken r (into s n) = 0
+taken r (out s n) = ofResource r s n
+
+-- the sum over the accepted calls
+unfoldable pub total : (Flow → ℕ) → List Entry → ℕ
+total f [] = 0
+total f (e ∷ es) = weigh (eqb (e .number) 0) (f (flow (e .call))) + total f es
+
+-- what the root held and what was brought is what it holds and what was taken
+abbrev pub Balanced : Tree → List Entry → Tree → Type 0
+Balanced t es u =
+    (r : Resource)
+    → amount (cores t) (places t) r 0 + total (brought r) es ≡ amount (cores u) (places u) r 0 + total (taken r) es
