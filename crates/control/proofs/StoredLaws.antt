@@ -2,26 +2,19 @@
 use Prim.Native.Nat.{ℕ}
 use mathlib.Core.Bool.{true}
 use mathlib.Core.List.{List}
-use mathlib.Core.Option.{Option, none, some}
 use mathlib.Core.Path.{_≡_, refl, ap, ap₂, sym, _∙_}
-use Rattle.model.specs.Functions.{upd}
-use Rattle.model.specs.Tree.{Tree, Core, Group, Place, Controls, Settings, withSet, withSettings, cores, lives, places}
-use Rattle.model.specs.Hierarchy.{childOf, ownPages, amount}
-use Rattle.model.specs.Settings.{SettingValue}
+use Rattle.model.specs.Tree.{Tree, Controls, lives}
 use Rattle.model.specs.Rules.{leaving}
 use Rattle.model.specs.Checks.{first, Pass}
 use Rattle.model.specs.Calls.{writeControl, writeSetting, lineValue, checks, verdict}
 use Rattle.model.specs.Effects.{newSet, controlled, written, effect}
-use Rattle.model.specs.declared.Resource.{Resource}
-use Rattle.model.specs.declared.Resource.the-variants.{Pages, Processes}
 use Rattle.model.specs.declared.Errno.{Errno}
 use Rattle.model.specs.declared.Answer.{Answer}
 use Rattle.model.specs.declared.Answer.the-variants.{Done, Refused}
-use Rattle.model.proofs.FunctionLaws.{split, upd-keeps}
 use Rattle.model.proofs.CheckLaws.{andThen, first-append}
-use Rattle.model.proofs.AmountLaws.{usage-same, population-same}
 use Rattle.model.proofs.Steps.{passed}
-use Rattle.model.proofs.ControlPreservation.{reset-child, reset-other, live-after-control, parent-after-control}
+use Rattle.model.proofs.ControlPreservation.{live-after-control, amount-after-control}
+use Rattle.model.proofs.SettingPreservation.{part-after-setting, amount-after-setting}
 use Rattle.tree.specs.Layout.{view}
 use Rattle.tree.specs.Changes.{GroupRow, Wrote}
 use Rattle.tree.specs.Counters.{HasParent}
@@ -36,35 +29,7 @@ use Rattle.control.specs.Values.{Settable, placeChecks, readingAnswer}
 use Rattle.control.proofs.WroteLaws.{wrote-as}
 use Rattle.control.proofs.ValueLaws.{valueChecks, value-answer, told-value}
 
--- amounts go by parents, own pages and places
-amount-same : (s s′ : ℕ → Core) (pl : ℕ → Place) → ((g : ℕ) → s′ g .parent ≡ s g .parent)
-    → ((g : ℕ) → ownPages (s′ g) ≡ ownPages (s g)) → (r : Resource) (a : ℕ) → amount s′ pl r a ≡ amount s pl r a
-amount-same s s′ pl e f Pages a = usage-same s s′ e f a
-amount-same s s′ pl e f Processes a = population-same s s′ pl e a
-
 -- ---- a setting
-
--- a part of a group that holds no settings
-part-written : {A : Type 0} (F : Group → A) → ((x : Settings) (v : Group) → F (withSettings x v) ≡ F v)
-    → (o : Option SettingValue) (v : Group) → F (written o v) ≡ F v
-part-written F e none v = refl
-part-written F e (some x) v = e _ v
-
-module _ (t : Tree) (g : ℕ) (o : Option SettingValue) where
-  abbrev set-in : ℕ → Group
-  set-in = upd (t .group) g (written o (t .group g))
-
-  part-after-setting : {A : Type 0} (F : Group → A) → ((x : Settings) (v : Group) → F (withSettings x v) ≡ F v)
-      → (k : ℕ) → F (set-in k) ≡ F (t .group k)
-  part-after-setting F e = upd-keeps F (t .group) g _ (part-written F e o (t .group g))
-
-  live-after-setting : (k : ℕ) → set-in k .core .live ≡ lives t k
-  live-after-setting = part-after-setting (λ v. v .core .live) (λ _ _. refl)
-
-  amount-after-setting : (r : Resource) (a : ℕ) → amount (λ k. set-in k .core) (places t) r a ≡ amount (cores t) (places t) r a
-  amount-after-setting =
-      amount-same (cores t) (λ k. set-in k .core) (places t)
-      (part-after-setting (λ v. v .core .parent) (λ _ _. refl)) (part-after-setting (λ v. ownPages (v .core)) (λ _ _. refl))
 
 -- The checks before the value, then those of the value.
 module _ (t : Tree) (user g : ℕ) (file line : List ℕ) where
@@ -109,25 +74,10 @@ module _ (xs : List ℕ) (k : Kept xs) (user g : ℕ) (file line : List ℕ)
       call-done xs k (writeSetting user g file line) v ys _ _
       (applied-wrote xs k (writeSetting user g file line) v ys
       (wrote-as (ap (λ x. changedAt (view xs) g (written x)) setting-told) w)
-      (λ h l. sym (live-after-setting (view xs) g o h) ∙ l) (amount-after-setting (view xs) g o))
+      (λ h l. sym (part-after-setting (view xs) g o (λ x. x .core .live) (λ _ _. refl) h) ∙ l) (amount-after-setting (view xs) g o))
       (sym v)
 
 -- ---- a control line
-
-module _ (t : Tree) (g : ℕ) (set gone : Controls) where
-  own-after-control : (k : ℕ) → ownPages (controlled t g set gone .group k .core) ≡ ownPages (cores t k)
-  own-after-control k =
-      let v : Group = upd (t .group) g (withSet set (t .group g)) k in
-      split (childOf g k (cores t k))
-      (λ y. ap (λ (x : Group). ownPages (x .core)) (reset-child t g gone k v y))
-      (λ n. ap (λ (x : Group). ownPages (x .core)) (reset-other t g gone k v n))
-      ∙ upd-keeps (λ x. ownPages (x .core)) (t .group) g _ refl k
-
-  amount-after-control : (r : Resource) (a : ℕ)
-      → amount (cores (controlled t g set gone)) (places t) r a ≡ amount (cores t) (places t) r a
-  amount-after-control =
-      amount-same (cores t) (cores (controlled t g set gone)) (places t)
-      (λ k. ap (λ f. f k) (parent-after-control t g set gone)) own-after-control
 
 module _ (xs : List ℕ) (k : Kept xs) (user g : ℕ) (line : List ℕ) (v : verdict (view xs) (writeControl user g line) ≡ Done) where
   control-live : lives (view xs) g ≡ true

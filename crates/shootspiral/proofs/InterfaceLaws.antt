@@ -58,7 +58,7 @@ quiet-step : (t : Tree) (c : Call) → effect t c ≡ t → t ≡ step t c
 quiet-step t c e = by-verdict t c (λ y. sym (step-accepted t c y ∙ e)) (λ x n. sym (step-refused t c x n))
 
 quiet : {xs : List ℕ} {c : Call} {n : ℕ} → Kept xs → effect (view xs) c ≡ view xs → n ≡ reply (view xs) c .number → Answered xs xs c n
-quiet {xs} {c} k e f = record { answer = f; tree = quiet-step (view xs) c e; kept = k; same = λ _. refl }
+quiet {xs} {c} k e f = record { answer = f; tree = quiet-step (view xs) c e; kept = k; same = λ _ _. refl }
 
 -- texts
 module _ {xs : List ℕ} {g : ℕ} {file old new : List ℕ} {a : ReadAnswer} (r : Reading xs (read g file old) (fileText (factsOf (view xs)) g file) old a new) where

@@ -14,6 +14,7 @@ use Rattle.model.specs.declared.Resource.{Resource}
 use Rattle.model.specs.declared.Errno.{Errno}
 use Rattle.model.specs.declared.Answer.{Answer}
 use Rattle.model.specs.declared.Answer.the-variants.{Done, Refused}
+use Rattle.model.proofs.CheckLaws.{not-done}
 use Rattle.model.proofs.Steps.{step-accepted, step-refused, passed, well-formed-effect}
 use Rattle.tree.specs.Layout.{words, view, sumIn}
 use Rattle.tree.specs.Changes.{Wrote}
@@ -23,7 +24,7 @@ use Rattle.tree.specs.Calling.{Calling, Applied}
 module _ (xs : List ℕ) (k : Kept xs) (c : Call) where
   pub call-refused : {A : Type 0} (expected r : A) (e : Errno) → verdict (view xs) c ≡ Refused e → r ≡ expected → Calling xs xs c expected r
   call-refused expected r e v a =
-      record { answer = a; tree = sym (step-refused (view xs) c e v); kept = k; same = λ _. refl }
+      record { answer = a; tree = sym (step-refused (view xs) c e v); kept = k; same = λ _ _. refl }
 
   -- the vetting's own answer
   pub call-stays : (r : Answer) (e : Errno) → r ≡ verdict (view xs) c → r ≡ Refused e → Calling xs xs c (verdict (view xs) c) r
@@ -36,7 +37,7 @@ module _ (xs : List ℕ) (k : Kept xs) (c : Call) where
           answer = a;
           tree = p .tree ∙ sym (step-accepted (view xs) c v);
           kept = p .kept;
-          same = λ n. absurd (n v);
+          same = λ e n. not-done e (sym n ∙ v);
         }
 
     -- the words stand for the definitions' tree, and the sums are its amounts

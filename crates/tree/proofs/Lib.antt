@@ -7,6 +7,7 @@ pub mod AdjustLaws
 pub mod ActingLaws
 pub mod KeptLaws
 pub mod CallLaws
+pub mod AnsweredLaws
 pub mod TestLaws
 pub mod FreshLaws
 pub mod RoomCallLaws

@@ -2,21 +2,25 @@
 -- refusal leaves the very same words. Assumes nothing.
 use Prim.Native.Nat.{ℕ}
 use mathlib.Core.List.{List}
-use mathlib.Core.Logic.{_≢_}
 use mathlib.Core.Path.{_≡_}
 use Rattle.model.specs.Calls.{Call, verdict}
 use Rattle.model.specs.Effects.{effect, step}
 use Rattle.model.specs.Replies.{reply}
-use Rattle.model.specs.declared.Answer.the-variants.{Done}
+use Rattle.model.specs.declared.Errno.{Errno}
+use Rattle.model.specs.declared.Answer.the-variants.{Refused}
 use Rattle.tree.specs.Layout.{view}
 use Rattle.tree.specs.Kept.{Kept}
+
+-- "Each refusal leaves everything as before the call": the words that a refusal leaves
+abbrev pub refusedWords : List ℕ → Call → Errno → List ℕ
+refusedWords xs c e = xs
 
 -- the words before and after call c, where r was answered and the definitions say `expected`
 pub record Calling {A : Type 0} (xs ys : List ℕ) (c : Call) (expected r : A) : Type 0 where
   pub answer : r ≡ expected
   pub tree : view ys ≡ step (view xs) c
   pub kept : Kept ys
-  pub same : verdict (view xs) c ≢ Done → ys ≡ xs
+  pub same : (e : Errno) → verdict (view xs) c ≡ Refused e → ys ≡ refusedWords xs c e
 
 -- the same of a caller who is told document 01's number
 abbrev pub Answered : List ℕ → List ℕ → Call → ℕ → Type 0
