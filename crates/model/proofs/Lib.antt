@@ -9,6 +9,7 @@ pub mod RoomLaws
 pub mod RoomAnswerLaws
 pub mod ControlLaws
 pub mod TextLaws
+pub mod WordLaws
 pub mod DecimalLaws
 pub mod NameLaws
 pub mod SettingLaws

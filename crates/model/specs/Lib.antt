@@ -6,6 +6,7 @@ pub mod Hierarchy
 pub mod Text
 pub mod Names
 pub mod Control
+pub mod Words
 pub mod Settings
 pub mod Rooms
 pub mod Rules
