@@ -1,1 +1,1 @@
-// Demand 3 of the code: specs/ and proofs/ only.
+// The demands of the code: specs/ and proofs/ only.

@@ -11,7 +11,7 @@ use borrow.Author.Tests.{eqb-false, eq-eqb, ne-eqb, leb-false, ltb-false, not-fa
 use Rattle.model.specs.Functions.{upd, passes, known}
 use Rattle.model.specs.Sizes.{groups, processes}
 use Rattle.model.specs.Checks.{Pass}
-use Rattle.model.specs.Tree.{Tree, Core, Group, at, isLive, settingsOf, atGroup, cores, lives, parents, depths, sets, settingsAt, places}
+use Rattle.model.specs.Tree.{Tree, Core, Group, at, isLive, groupOf, settingsOf, atGroup, cores, lives, parents, depths, sets, settingsAt, places}
 use Rattle.model.specs.Hierarchy.{on, onIn, childOf, ownPages, usage, factsOf}
 use Rattle.model.specs.Control.{asked, isWanted, anyController}
 use Rattle.model.specs.Settings.{settingController, SettingValue, inRange, valueOf}
@@ -31,7 +31,7 @@ use Rattle.model.specs.declared.Answer.the-variants.{Done, Refused}
 use Rattle.model.proofs.FunctionLaws.{split, clash, and-false, upd-keeps, any-none, weigh-yes}
 use Rattle.model.proofs.CheckLaws.{first-pass}
 use Rattle.model.proofs.ChainLaws.{root-inside}
-use Rattle.model.proofs.AmountLaws.{place-live, usage-same, usage-after-charge, usage-after-release}
+use Rattle.model.proofs.AmountLaws.{place-live, place-free, usage-same, usage-after-charge, usage-after-release}
 use Rattle.model.proofs.ControlLaws.{any-controller-none, set-after-true, join-none, leave-true}
 use Rattle.model.proofs.SettingLaws.{default-new, range-new, default-after-put, range-after-put}
 use Rattle.model.proofs.RoomLaws.{room-on-chain, over-figure, machine-acts}
@@ -76,6 +76,10 @@ module _ (t : Tree) (w : WellFormed t) where
 
   pub process-lives : (p : ℕ) → isLive (places t p) ≡ true → lives t (processGroup t p) ≡ true
   process-lives p l = w .placed .group p (processGroup t p) (place-live (places t p) l)
+
+  -- the group of a process that is not live is the root
+  pub group-lives : (p : ℕ) → lives t (processGroup t p) ≡ true
+  group-lives p = split (isLive (places t p)) (process-lives p) (λ n. rw (ap groupOf (place-free (places t p) n)) (w .sound .root))
 
   pub process-number : (p : ℕ) → isLive (places t p) ≡ true → p ≢ 0
   process-number p l e = clash (isLive (places t p)) l (rw e (ap isLive (w .placed .none)))

@@ -11,6 +11,8 @@ use Rattle.model.specs.Tree.{Tree, depths, groupOf, controllerOf, cores,
 use Rattle.model.specs.Hierarchy.{chain, commonAncestor, on, inside, amount, factsOf}
 use Rattle.model.specs.Text.{ended, decimal}
 use Rattle.model.specs.Names.{settingName, fileName}
+use Rattle.model.specs.Control.{hasBadWord, Part, firstBadWord}
+use Rattle.model.specs.Words.{FirstBad, HasBad}
 use Rattle.model.specs.Settings.{settingController, toFigure}
 use Rattle.model.specs.Rooms.{over, actingLimit, Stopped, shortage}
 use Rattle.model.specs.Rules.{mayWrite, processGroup}
@@ -106,6 +108,13 @@ pub record Lowest (t : Tree) : Type 0 where
   pub below : (g h a : ℕ) → lives t g ≡ true → inside (parents t) a g ≡ true → inside (parents t) a h ≡ true
       → inside (parents t) a (commonAncestor (parents t) g h) ≡ true
 
+-- The question about a control line: it answers the first bad word by its place, and nothing else fits; and a line that is
+-- refused for a bad word has one.
+pub record Question (line : List ℕ) : Type 0 where
+  pub answer : FirstBad line (firstBadWord line)
+  pub only : (p : Part) → FirstBad line p → p ≡ firstBadWord line
+  pub refused : HasBad line (hasBadWord line)
+
 pub record Demand2 : Type 0 where
   pub exactly : (t : Tree) (c : Call) → Exactly t c
   pub counted : (t : Tree) → WellFormed t → Counted t
@@ -113,6 +122,7 @@ pub record Demand2 : Type 0 where
   pub writeBack : (t : Tree) → WellFormed t → WriteBack t
   pub contained : (t : Tree) → WellFormed t → Contained t
   pub never : (t : Tree) → WellFormed t → NeverAcross t
+  pub question : (line : List ℕ) → Question line
 
 -- Demand 3.
 -- "tree and book are alike in live groups, parents, own pages, usage, both limits, each live process's group and the live

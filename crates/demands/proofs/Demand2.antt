@@ -1,0 +1,166 @@
+-- Demand 2 of the definitions, told by the contracts. Assumes nothing.
+use Prim.Native.Nat.{ℕ, suc}
+use mathlib.Core.Bool.{true}
+use mathlib.Core.List.{List, [], _∷_, _++_, head-eq-of-cons-eq}
+use mathlib.Core.Logic.{_≢_}
+use mathlib.Core.Option.{Option, none, some}
+use mathlib.Core.Path.{_≡_, refl, ap, ap₂, sym, _∙_, subst}
+use lib.ListN.{length, take, drop}
+use lib.Seq.{take-append-seam}
+use denote.Ref.{now}
+use Rattle.model.specs.Functions.{passes}
+use Rattle.model.specs.Checks.{errnoNumber, answerNumber, Pass}
+use Rattle.model.specs.Tree.{Tree, lives, parents}
+use Rattle.model.specs.Hierarchy.{chain, on, inside, factsOf}
+use Rattle.model.specs.Names.{settingName, fileNamed}
+use Rattle.model.specs.Control.{firstBadWord}
+use Rattle.model.specs.Settings.{settingController}
+use Rattle.model.specs.Rooms.{shortage}
+use Rattle.model.specs.Rules.{mayWrite, processGroup}
+use Rattle.model.specs.Files.{isPresent, contents, fits}
+use Rattle.model.specs.Calls.{Call, read, writeSetting, fileText, checks, verdict}
+use Rattle.model.specs.Replies.{textReply, reply}
+use Rattle.model.specs.Book.{Entry}
+use Rattle.model.specs.Containment.{caller, OwnsInside, NoneAcross, GivesOutside}
+use Rattle.model.specs.Demands.{Asks, StoppedAt}
+use Rattle.model.specs.Demands as D
+use Rattle.model.specs.declared.Resource.{Resource}
+use Rattle.model.specs.declared.Setting.{Setting}
+use Rattle.model.specs.declared.File.the-variants.{Value}
+use Rattle.model.specs.declared.Answer.the-variants.{Done}
+use Rattle.model.proofs.ChainLaws.{inside-live}
+use Rattle.model.proofs.NameLaws.{fileNamed-fileName}
+use Rattle.model.proofs.Steps.{passed, group-lives}
+use Rattle.model.proofs.OwnsInside.{owns-step}
+use Rattle.model.proofs.Demands.{demands}
+use Rattle.tree.specs.Layout.{view}
+use Rattle.tree.specs.Kept.{Kept, Fresh}
+use Rattle.tree.specs.Calling.{Answered}
+use Rattle.tree.proofs.AnsweredLaws.{answered-number, answered-done, answered-effect}
+use Rattle.tree.proofs.WalkLaws.{member-at}
+use Rattle.shootspiral.specs.Interface.{groupWord, roomWords, Told}
+use Rattle.demands.specs.Runs.{Runs, start, next, Along}
+use Rattle.demands.specs.Demand2.{Exactly, RoomTold, BadPart, Demand2}
+
+exact : {xs ys : List ℕ} {c : Call} {n : ℕ} → Answered xs ys c n → Exactly xs ys c n
+unfolding verdict
+exact {xs} {c = c} a =
+    record {
+      number = λ x s. answered-number a ∙ ap answerNumber (sym (demands .second .exactly (view xs) c .only x s));
+      accepted = answered-effect a;
+    }
+
+-- What a charge or a fork tells.
+module _ {xs ys : List ℕ} {c : Call} {k : ℕ} {told : List ℕ} (r : Resource) (n p : ℕ) (q : Asks r n p c) (kept : Kept xs)
+    (a : Answered xs ys c k) (e : told ≡ roomWords (reply (view xs) c)) where
+  abbrev counts : D.Counted (view xs)
+  counts = demands .second .counted (view xs) (kept .formed)
+
+  words-are : (g : Option ℕ) (m : ℕ) → reply (view xs) c .group ≡ g → reply (view xs) c .consulted ≡ m → told ≡ groupWord g ∷ m ∷ []
+  words-are g m f h = e ∙ ap₂ (λ x y. groupWord x ∷ y ∷ []) f h
+
+  -- the group that is told is on the chain of a live group
+  stopped-lives : (h k : ℕ) → StoppedAt (view xs) r n (processGroup (view xs) p) h k → lives (view xs) h ≡ true
+  unfolding inside
+  stopped-lives h k s =
+      let t : Tree = view xs in
+      inside-live (kept .formed .sound) h (processGroup t p) (group-lives t (kept .formed) p)
+      (rw (← s .2 .here) (member-at (chain (parents t) (processGroup t p)) (s .0) (s .2 .place)))
+
+  untold : (g : Option ℕ) → reply (view xs) c .group ≡ g → k ≢ 0 → k ≢ errnoNumber (shortage r) → told ≡ groupWord none ∷ 0 ∷ []
+  untold none f nz ns = words-are none 0 f (counts .other r n p c q (λ z. nz (a .answer ∙ z)) f)
+  untold (some h) f nz ns = absurd (ns (a .answer ∙ counts .stopped r n p h c q f .0))
+
+  room-told : RoomTold (view xs) r n p k told
+  room-told =
+      record {
+        success = λ z. let s = counts .success r n p c q (sym (a .answer) ∙ z) in words-are none _ (s .1) (s .0);
+        stopped = λ z.
+            let s = counts .named r n p c q (sym (a .answer) ∙ z) in
+            (s .0, reply (view xs) c .consulted, words-are (some (s .0)) _ (s .1) refl, s .2, stopped-lives (s .0) _ (s .2));
+        other = untold (reply (view xs) c .group) refl;
+      }
+
+-- Writing back.
+module _ {xs : List ℕ} {n k : ℕ} {buffer bytes : List ℕ} (g : ℕ) (s : Setting) (kept : Kept xs)
+    (a : Answered xs xs (read g (settingName s) buffer) n) (z : n ≡ 0)
+    (told : Told (reply (view xs) (read g (settingName s) buffer)) (k ∷ []) bytes) where
+  abbrev t : Tree
+  t = view xs
+
+  abbrev text : List ℕ
+  text = contents (factsOf t) g (Value s)
+
+  named : fileNamed (settingName s) ≡ some (Value s)
+  named = fileNamed-fileName (Value s)
+
+  read-passed : Pass (checks (factsOf t) (read g (settingName s) buffer))
+  read-passed = passed t (read g (settingName s) buffer) (answered-done a z)
+
+  read-lives : lives t g ≡ true
+  unfolding checks Pass
+  read-lives = let p = read-passed in (search)
+
+  read-on : on t (settingController s) g ≡ true
+  unfolding checks Pass
+  read-on =
+      let p = read-passed in
+      let o : passes (fileNamed (settingName s)) (isPresent t g) ≡ true = (search) in
+      rw named at o
+
+  read-text : reply t (read g (settingName s) buffer) ≡ textReply Done text buffer
+  unfolding checks Pass
+  read-text =
+      let p = read-passed in
+      let f : fits (fileText (factsOf t) g (settingName s)) buffer ≡ true = (search) in
+      demands .second .writeBack t (kept .formed) .shown g s buffer read-lives read-on (rw named at f)
+
+  delivered-text : take k bytes ≡ text
+  delivered-text =
+      let l : k ≡ length text = head-eq-of-cons-eq (told .told ∙ ap (λ x. x .told ∷ []) read-text) in
+      let b : bytes ≡ text ++ drop (length text) buffer = told .buffer ∙ ap (λ x. x .buffer) read-text in
+      rw (l, b) (take-append-seam text (drop (length text) buffer))
+
+  written-back : {ys : List ℕ} {m : ℕ} (user : ℕ) → mayWrite t user (parents t g) ≡ true
+      → Answered xs ys (writeSetting user g (settingName s) (take k bytes)) m → (m ≡ 0) × (view ys ≡ t)
+  written-back {ys} {m} user may w =
+      let w′ : Answered xs ys (D.writtenBack t user g s) m = subst (λ (x : List ℕ). Answered xs ys (writeSetting user g (settingName s) x) m) delivered-text w in
+      let back = demands .second .writeBack t (kept .formed) in (
+        answered-number w′ ∙ ap answerNumber (back .accepted user g s read-lives read-on may),
+        w′ .tree ∙ back .same user g s read-lives read-on may,
+      )
+
+-- Containment along a run.
+kept-run : {xs ys : List ℕ} {es : List Entry} → Runs xs es ys → Kept ys
+kept-run (start k) = k
+kept-run (next r a) = a .kept
+
+contained-run : {xs ys : List ℕ} {es : List Entry} (user d : ℕ) → user ≢ 0 → (r : Runs xs es ys) → OwnsInside (view xs) user d
+    → Along (λ t c u. GivesOutside user d t c → ⊥) r
+    → OwnsInside (view ys) user d × Along (λ t c u. caller c ≡ some user → NoneAcross d t u) r
+unfolding Along
+contained-run user d nz (start k) own given = (own, tt)
+contained-run user d nz (next {ys = ys} {c = c} r a) own given =
+    let before = contained-run user d nz r own (given .0) in
+    let w = kept-run r .formed in (
+      subst (λ (u : Tree). OwnsInside u user d) (sym (a .tree)) (owns-step (view ys) w user d nz (before .0) c (given .1)),
+      (
+        before .1,
+        λ by. subst (λ (u : Tree). NoneAcross d (view ys) u) (sym (a .tree)) (demands .second .contained (view ys) w .across user d c nz (before .0) by),
+      ),
+    )
+
+pub demand-2-of-the-code : Demand2
+demand-2-of-the-code =
+    record {
+      exactly = exact;
+      room = λ r n p q k a e. room-told r n p q k a e;
+      question = λ {line} e. (firstBadWord line, e, demands .second .question line .answer);
+      part = λ {r} {s} p.
+          let f = demands .second .question (now s) .answer in
+          record { first = f; word = p .bytes ∙ f .own };
+      back = λ user g s k a z told may w. written-back g s k a z told user may w;
+      contained = contained-run;
+      fresh = λ {m} {xs} z user d nz.
+          subst (λ (t : Tree). OwnsInside t user d) (sym (z .tree)) (demands .fresh m .owns user d nz);
+    }

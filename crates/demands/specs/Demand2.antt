@@ -1,0 +1,74 @@
+-- Demand 2 of the code, from the contracts alone: exactly when, what charge and fork tell, the question about a control line,
+-- writing back, containment. Assumes nothing.
+use Prim.Native.Nat.{ℕ, suc}
+use mathlib.Core.Bool.{true}
+use mathlib.Core.List.{List, [], _∷_}
+use mathlib.Core.Logic.{_≢_}
+use mathlib.Core.Option.{none, some}
+use mathlib.Core.Path.{_≡_}
+use lib.ListN.{take}
+use denote.Ref.{RefT, now}
+use Rattle.model.specs.Checks.{errnoNumber, answerNumber, Says}
+use Rattle.model.specs.Tree.{Tree, lives, parents, depths}
+use Rattle.model.specs.Hierarchy.{factsOf}
+use Rattle.model.specs.Text.{body}
+use Rattle.model.specs.Names.{settingName}
+use Rattle.model.specs.Control.{Part, firstBadWord}
+use Rattle.model.specs.Words.{cut, FirstBad}
+use Rattle.model.specs.Rooms.{shortage}
+use Rattle.model.specs.Rules.{mayWrite, processGroup}
+use Rattle.model.specs.Calls.{Call, writeSetting, read, checks}
+use Rattle.model.specs.Effects.{effect}
+use Rattle.model.specs.Replies.{reply}
+use Rattle.model.specs.Book.{Entry}
+use Rattle.model.specs.Containment.{caller, OwnsInside, NoneAcross, GivesOutside}
+use Rattle.model.specs.Demands.{Asks, StoppedAt}
+use Rattle.model.specs.declared.Resource.{Resource}
+use Rattle.model.specs.declared.Setting.{Setting}
+use Rattle.model.specs.declared.Answer.{Answer}
+use Rattle.tree.specs.Layout.{view}
+use Rattle.tree.specs.Kept.{Kept, Fresh}
+use Rattle.tree.specs.Calling.{Answered}
+use Rattle.text.specs.Control.{IsPart}
+use Rattle.shootspiral.specs.Interface.{groupWord, roomWords, partWords, Told}
+use Rattle.demands.specs.Runs.{Runs, Along}
+
+-- "Calls are turned away exactly when a listed rule .. says so, and otherwise do exactly what the rule says."
+pub record Exactly (xs ys : List ℕ) (c : Call) (n : ℕ) : Type 0 where
+  pub number : (a : Answer) → Says (checks (factsOf (view xs)) c) a → n ≡ answerNumber a
+  pub accepted : n ≡ 0 → view ys ≡ effect (view xs) c
+
+-- The words that a charge or a fork of process p tells, by the number k that it answers: no group, and depth plus one; the first
+-- group without room, which is live, and its place; no group, and 0.
+pub record RoomTold (t : Tree) (r : Resource) (n p k : ℕ) (told : List ℕ) : Type 0 where
+  pub success : k ≡ 0 → told ≡ groupWord none ∷ suc (depths t (processGroup t p)) ∷ []
+  pub stopped : k ≡ errnoNumber (shortage r)
+      → (h i : ℕ) × (told ≡ h ∷ i ∷ []) × StoppedAt t r n (processGroup t p) h i × (lives t h ≡ true)
+  pub other : k ≢ 0 → k ≢ errnoNumber (shortage r) → told ≡ groupWord none ∷ 0 ∷ []
+
+-- the part that is handed back is the one that the question asks for, and these are its bytes
+pub record BadPart (line bytes : List ℕ) (p : Part) : Type 0 where
+  pub first : FirstBad line p
+  pub word : bytes ≡ cut (body line) (p .start) (p .size)
+
+pub record Demand2 : Type 0 where
+  pub exactly : {xs ys : List ℕ} {c : Call} {n : ℕ} → Answered xs ys c n → Exactly xs ys c n
+  pub room : {xs ys : List ℕ} {c : Call} {k : ℕ} {told : List ℕ} (r : Resource) (n p : ℕ) → Asks r n p c → Kept xs
+      → Answered xs ys c k → told ≡ roomWords (reply (view xs) c) → RoomTold (view xs) r n p k told
+  -- told as two words, and as a part of the lent line
+  pub question : {line told : List ℕ} → told ≡ partWords (firstBadWord line)
+      → (p : Part) × (told ≡ p .start ∷ p .size ∷ []) × FirstBad line p
+  pub part : {r s : RefT (List ℕ)} → IsPart r s (firstBadWord (now s)) → BadPart (now s) (now r) (firstBadWord (now s))
+  -- "What a settings file shows can be written back by whoever may write it, and changes nothing": the first k bytes of what a
+  -- read delivered, on the words that it read
+  pub back : {xs ys : List ℕ} {n m k : ℕ} {buffer bytes : List ℕ} (user g : ℕ) (s : Setting) → Kept xs
+      → Answered xs xs (read g (settingName s) buffer) n → n ≡ 0
+      → Told (reply (view xs) (read g (settingName s) buffer)) (k ∷ []) bytes
+      → mayWrite (view xs) user (parents (view xs) g) ≡ true
+      → Answered xs ys (writeSetting user g (settingName s) (take k bytes)) m → (m ≡ 0) × (view ys ≡ view xs)
+  -- "A user other than 0, all of whose groups lie inside one handed-over part, never moves a process across that part's edge": over
+  -- every run in which nobody hands over to him a group outside it
+  pub contained : {xs ys : List ℕ} {es : List Entry} (user d : ℕ) → user ≢ 0 → (r : Runs xs es ys)
+      → OwnsInside (view xs) user d → Along (λ t c u. GivesOutside user d t c → ⊥) r
+      → OwnsInside (view ys) user d × Along (λ t c u. caller c ≡ some user → NoneAcross d t u) r
+  pub fresh : {m : ℕ} {xs : List ℕ} → Fresh m xs → (user d : ℕ) → user ≢ 0 → OwnsInside (view xs) user d
