@@ -1,5 +1,6 @@
 -- Demand 2 of the definitions, told by the contracts. Assumes nothing.
 use Prim.Native.Nat.{ℕ, suc}
+use native.Mathlib.Omega.{arith}
 use mathlib.Core.Bool.{true}
 use mathlib.Core.List.{List, [], _∷_, _++_, head-eq-of-cons-eq}
 use mathlib.Core.Logic.{_≢_}
@@ -79,6 +80,7 @@ module _ {xs ys : List ℕ} {c : Call} {k : ℕ} {told : List ℕ} (r : Resource
             let s = counts .named r n p c q (sym (a .answer) ∙ z) in
             (s .0, reply (view xs) c .consulted, words-are (some (s .0)) _ (s .1) refl, s .2, stopped-lives (s .0) _ (s .2));
         other = untold (reply (view xs) c .group) refl;
+        apart = λ h l e. omega (arith, kept .formed .sound .range h l);
       }
 
 -- Writing back.

@@ -45,6 +45,8 @@ pub record RoomTold (t : Tree) (r : Resource) (n p k : ℕ) (told : List ℕ) : 
   pub stopped : k ≡ errnoNumber (shortage r)
       → (h i : ℕ) × (told ≡ h ∷ i ∷ []) × StoppedAt t r n (processGroup t p) h i × (lives t h ≡ true)
   pub other : k ≢ 0 → k ≢ errnoNumber (shortage r) → told ≡ groupWord none ∷ 0 ∷ []
+  -- the word for no group is no group's number
+  pub apart : (h : ℕ) → lives t h ≡ true → h ≢ groupWord none
 
 -- the part that is handed back is the one that the question asks for, and these are its bytes
 pub record BadPart (line bytes : List ℕ) (p : Part) : Type 0 where

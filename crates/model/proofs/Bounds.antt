@@ -70,7 +70,7 @@ within-after-add t w r p c (byAdmit {user = user}) k a i =
     (sym (ap (λ x. inside (parents t) a (groupOf (x .place))) (upd-same (t .process) p (record { place = at 0; user = user }))) ∙ i) in
     rw (z, root-limit-none t w Processes)
 
--- "the larger of the limit and what it had when the limit was last written"
+-- "the larger of that limit and the pages it had when the limit was last written"
 abbrev pub Marked : (ℕ → Core) → (ℕ → ℕ) → Type 0
 Marked s mark = (g l : ℕ) → s g .live ≡ true → s g .limit Pages ≡ Figure l → usage s g ≤ max l (mark g)
 
@@ -93,10 +93,10 @@ marked-frame s s′ mark q l p o f =
     let u : ((a : ℕ) → usage s′ a ≡ usage s a) = usage-same s s′ p (λ g. rw (l g, o g)) in
     marked-falls s s′ mark q (λ a v. ⊎-elim (λ n. inl n) (λ e. inr (sym (l a) ∙ v, e, omega (arith, u a))) (f a))
 
--- a limit of pages is written: the mark is what the group has
-marked-write : (s : ℕ → Core) (mark : ℕ → ℕ) (g : ℕ) (l : Limit) → Marked s mark
-    → Marked (upd s g (withLimits (withLimit Pages l (s g .limit)) (s g))) (upd mark g (usage s g))
-marked-write s mark g l q a m v e =
+-- a limit of pages is written, and the mark is no less than what the group has
+marked-write : (s : ℕ → Core) (mark : ℕ → ℕ) (g : ℕ) (l : Limit) (k : ℕ) → usage s g ≤ k → Marked s mark
+    → Marked (upd s g (withLimits (withLimit Pages l (s g .limit)) (s g))) (upd mark g k)
+marked-write s mark g l k h q a m v e =
     let x : Core = withLimits (withLimit Pages l (s g .limit)) (s g) in
     let u : ((a : ℕ) → usage (upd s g x) a ≡ usage s a) =
     usage-same s (upd s g x) (upd-keeps (λ c. c .parent) s g x refl) (upd-keeps (λ c. ownPages c) s g x refl) in
@@ -134,7 +134,7 @@ module _ (t : Tree) (mark : ℕ → ℕ) (w : WellFormed t) (q : Marked (cores t
   marked-value g none = q
   marked-value g (some (weight n)) = q
   marked-value g (some (bandwidth x p)) = q
-  marked-value g (some (maximum Pages l)) = marked-write (cores t) mark g _ q
+  marked-value g (some (maximum Pages l)) = marked-write (cores t) mark g _ _ (omega arith) q
   marked-value g (some (maximum Processes l)) =
       marked-frame (cores t) _ mark q
       (upd-keeps (λ c. c .live) (cores t) g _ refl) (upd-keeps (λ c. c .parent) (cores t) g _ refl) (upd-keeps (λ c. c .own) (cores t) g _ refl)

@@ -1,6 +1,6 @@
 -- The cases marked P hold, by computation. Assumes nothing.
 use mathlib.Core.Bool.{Bool, true}
-use mathlib.Core.List.{List}
+use mathlib.Core.List.{List, [], _∷_}
 use mathlib.Core.Path.{_≡_, refl}
 use Rattle.model.specs.Functions.{upd, weigh, sum, any, member}
 use Rattle.model.specs.Checks.{first}
@@ -15,7 +15,9 @@ use Rattle.model.specs.Files.{processLines, namesOf, nameLine, contents,
 use Rattle.model.specs.Calls.{chargeChecks, forkChecks, checks, verdict}
 use Rattle.model.specs.Effects.{effect, step, fresh, run}
 use Rattle.model.specs.Replies.{chargeAnswer, forkAnswer, reply, replyBy}
-use Rattle.model.specs.Worked.{Evening, holds, allHold, table}
+use Rattle.model.specs.Book.{enter, bookStep, fed, freshBook}
+use Rattle.model.specs.Lists.{log}
+use Rattle.model.specs.Worked.{Evening, holds, allHold, table, limitsAndCharges, allBooked, marks, rewriting, rewritten}
 
 -- `allHold` with everything open that a row computes with: whoever unfolds it unfolds the whole line
 unfoldable pub computed : List Evening → Bool
@@ -25,3 +27,17 @@ computed es = allHold es
 pub all-hold : allHold table ≡ true
 unfolding computed table
 all-hold = refl
+
+-- the book's marks: 6 after P3, where the limit is 5 and the usage 6
+pub marks-hold : allBooked limitsAndCharges marks ≡ true
+unfolding computed enter bookStep fed freshBook log allBooked marks
+marks-hold = refl
+
+pub rewritten-hold : allBooked rewriting rewritten ≡ true
+unfolding computed enter bookStep fed freshBook log allBooked rewritten
+rewritten-hold = refl
+
+-- the evening's own replies
+pub rewriting-holds : allHold (rewriting ∷ []) ≡ true
+unfolding computed
+rewriting-holds = refl

@@ -1,5 +1,5 @@
--- The three demands that the README quotes, as statements about the definitions. `Demands` at the end is all of them, and
--- proofs/Demands.antt shows it. Assumes nothing.
+-- The three demands of docs/papers/00-demands.md, as statements about the definitions; what is quoted here is from there or from
+-- document 01. `Demands` at the end is all of them, and proofs/Demands.antt shows it. Assumes nothing.
 use Prim.Native.Nat.{ℕ, suc, _≤_, max}
 use mathlib.Core.Bool.{true, false}
 use mathlib.Core.List.{List, [], _∷_, _++_}
@@ -48,7 +48,8 @@ pub record Reaching : Type 0 where
   pub formed : (t : Tree) → Reachable t → WellFormed t
   pub kept : (t : Tree) (c : Call) → WellFormed t → WellFormed (step t c)
 
--- Demand 1. Every call has an answer, since the definitions are total. "A call turned away gives document 01's number and leaves tree, processes, charges and reply buffer untouched."
+-- Demand 1. Every call has an answer, since the definitions are total. "A call turned away gives the number in document 01's
+-- table and leaves tree, processes, charges and reply buffer untouched."
 pub record TurnedAway (t : Tree) (c : Call) (e : Errno) : Type 0 where
   pub number : reply t c .number ≡ errnoNumber e
   pub tree : step t c ≡ t
@@ -59,7 +60,8 @@ pub record Demand1 : Type 0 where
   pub refused : (t : Tree) (c : Call) (e : Errno) → verdict t c ≡ Refused e → TurnedAway t c e
   pub numbered : (t : Tree) (c : Call) → reply t c .number ≡ 0 → verdict t c ≡ Done
 
--- Demand 2. "Calls are turned away exactly when a listed rule says so, and otherwise do exactly what the rule says."
+-- Demand 2. "Calls are turned away exactly when a listed rule of the version 2 papers, as document 01 fixes them, says so, and
+-- otherwise do exactly what the rule says."
 pub record Exactly (t : Tree) (c : Call) : Type 0 where
   pub says : Says (checks (factsOf t) c) (verdict t c)
   pub only : (a : Answer) → Says (checks (factsOf t) c) a → a ≡ verdict t c
@@ -140,7 +142,7 @@ pub record Alike (t : Tree) (b : Book) : Type 0 where
       → fits (ended (decimal (toFigure r (inBook b r g)))) buffer ≡ true
       → reply t (read g (fileName (Current r)) buffer) ≡ textReply Done (ended (decimal (toFigure r (inBook b r g)))) buffer
 
--- "a group with a page limit never has more pages than the larger of the limit and what it had when the limit was last
+-- "A group with a page limit never has more pages than the larger of that limit and the pages it had when the limit was last
 -- written", and the root is never over the machine
 pub record Bounded (b : Book) : Type 0 where
   pub machine : inBook b Pages 0 ≤ b .machine

@@ -1,18 +1,24 @@
 -- The cases of document 01, "Evenings we have worked through", that are marked P: calls with the whole reply that each
--- must get, from the bytes of the lines to the bytes of the reply buffer. proofs/Worked.antt shows that all hold.
+-- must get, from the bytes of the lines to the bytes of the reply buffer; and what the book of demand 3 keeps in P1 to P4.
+-- proofs/Worked.antt shows that all hold.
 -- Assumes nothing.
 use Prim.Native.Nat.{ℕ}
 use Prim.Native.String.{String}
 use mathlib.Core.Bool.{Bool, true, false, _&&_}
-use mathlib.Core.List.{List, [], _∷_, _++_}
+use mathlib.Core.List.{List, [], _∷_, _++_, map}
 use mathlib.Core.Option.{Option, none, some}
 use lib.Dec.{eqb}
-use lib.ListN.{length}
+use lib.ListN.{length, take}
 use Rattle.model.specs.Tree.{Tree}
 use Rattle.model.specs.Text.{bytes, sameBytes}
 use Rattle.model.specs.Calls.{Call, make, remove, handOver, writeProcs, writeControl, writeSetting, admit, exit, charge, release, read, membership}
 use Rattle.model.specs.Effects.{step, fresh}
 use Rattle.model.specs.Replies.{Reply, reply}
+use Rattle.model.specs.Book.{Book, inBook, freshBook}
+use Rattle.model.specs.Lists.{bookAfter}
+use Rattle.model.specs.declared.Resource.the-variants.{Pages}
+use Rattle.model.specs.declared.Limit.{Limit}
+use Rattle.model.specs.declared.Limit.the-variants.{NoLimit, Figure}
 
 -- a call and the whole reply that it must get
 pub record Row : Type 0 where
@@ -186,3 +192,57 @@ membershipPath =
 
 unfoldable pub table : List Evening
 table = limitsAndCharges ∷ rounding ∷ weights ∷ lastWord ∷ delegation ∷ membershipPath ∷ []
+
+-- What the book of demand 3 keeps of a group's pages after the first calls of an evening: the limit, the usage and the mark.
+pub record Booked : Type 0 where
+  pub calls : ℕ
+  pub group : ℕ
+  pub limit : ℕ
+  pub usage : ℕ
+  pub mark : ℕ
+
+abbrev pub booked : ℕ → ℕ → ℕ → ℕ → ℕ → Booked
+booked n g l u m = record { calls = n; group = g; limit = l; usage = u; mark = m }
+
+abbrev pub bookOfEvening : Evening → ℕ → Book
+bookOfEvening e n = bookAfter (fresh (e .machine)) (freshBook (e .machine)) (map (λ (r : Row). r .call) (take n (e .rows)))
+
+abbrev pub isFigure : ℕ → Limit → Bool
+isFigure n NoLimit = false
+isFigure n (Figure m) = eqb m n
+
+abbrev pub isBooked : Book → Booked → Bool
+isBooked b x =
+    isFigure (x .limit) (b .group (x .group) .limit Pages)
+    && (eqb (inBook b Pages (x .group)) (x .usage) && eqb (b .mark (x .group)) (x .mark))
+
+unfoldable pub allBooked : Evening → List Booked → Bool
+allBooked e [] = true
+allBooked e (x ∷ xs) = elim (isBooked (bookOfEvening e (x .calls)) x) [ true ↦ allBooked e xs | false ↦ false ]
+
+-- P1 to P4, in pages: after each of the two limits, after P1, after P3's release, after P3, after P4. After P3 group 1 has as many
+-- as its mark, and more than its limit; after P1 group 2 has as many as its limit.
+unfoldable pub marks : List Booked
+marks =
+    booked 5 1 10 0 0 ∷ booked 6 2 8 0 0 ∷ booked 9 1 10 8 0 ∷ booked 9 2 8 8 0
+    ∷ booked 12 1 10 6 0 ∷ booked 13 1 5 6 6 ∷ booked 13 2 8 6 0 ∷ booked 15 1 5 6 6 ∷ []
+
+-- A second write marks anew, be it more or less; a limit of processes, a charge and a release leave the mark.
+abbrev pub rewriting : Evening
+rewriting =
+    evening 16
+    (succeeds (make 0 0 1)
+    ∷ succeeds (control 0 0 "+memory +pids")
+    ∷ succeeds (admit 5 0)
+    ∷ succeeds (procs 0 1 "5")
+    ∷ granted (charge 5 6) 2
+    ∷ succeeds (setting 0 1 "memory.max" "20480")
+    ∷ succeeds (release 1 4)
+    ∷ succeeds (setting 0 1 "memory.max" "40960")
+    ∷ granted (charge 5 1) 2
+    ∷ succeeds (setting 0 1 "pids.max" "3")
+    ∷ refuses (setting 0 1 "memory.max" "x") 22
+    ∷ [])
+
+unfoldable pub rewritten : List Booked
+rewritten = booked 6 1 5 6 6 ∷ booked 7 1 5 2 6 ∷ booked 8 1 10 2 2 ∷ booked 9 1 10 3 2 ∷ booked 10 1 10 3 2 ∷ booked 11 1 10 3 2 ∷ []
