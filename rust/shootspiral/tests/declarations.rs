@@ -1,6 +1,7 @@
 //! `include/shootspiral.h` and `src/sys.rs` declare what `crates/shootspiral` exports: names,
 //! arguments in order, types, results. From each exported function the declarations in C and in Rust
-//! are written out, and compared as text with those of the two files.
+//! are written out, and compared as text with those of the two files. So is the promise of each call
+//! on a tree, which the theorem of `crates/demands` stands on.
 
 use std::fs;
 use std::path::PathBuf;
@@ -15,10 +16,59 @@ fn on_one_line(text: &str) -> String {
     words.join(" ").replace("( ", "(").replace(", )", ")").replace(",)", ")")
 }
 
+/// An exported function: parameters with their types, the result, the clauses of the contract.
+struct Function {
+    name: String,
+    parameters: Vec<(String, String)>,
+    result: String,
+    clauses: Vec<String>,
+}
+
+impl Function {
+    /// Reads a function from its name up to its body.
+    fn read(written: &str) -> Function {
+        let parted = on_one_line(written).replace(" requires {", "\nrequires {");
+        let parted = parted.replace(" ensures {", "\nensures {");
+        let mut parts = parted.lines().map(str::to_string);
+        let signature = parts.next().expect(written);
+        let (name, rest) = signature.split_once('(').expect(written);
+        let (arguments, result) = rest.split_once(')').expect(written);
+        let arguments = arguments.split(", ").filter(|argument| !argument.is_empty());
+        let pairs = arguments.map(|argument| argument.split_once(": ").expect(written));
+        Function {
+            name: name.to_string(),
+            parameters: pairs.map(|(name, kind)| (name.to_string(), kind.to_string())).collect(),
+            result: result.trim().to_string(),
+            clauses: parts.collect(),
+        }
+    }
+
+    fn type_of(&self, parameter: &str) -> Option<&str> {
+        let found = self.parameters.iter().find(|(name, _)| name == parameter);
+        found.map(|(_, kind)| kind.as_str())
+    }
+
+    fn clauses_with(&self, text: &str) -> Vec<&str> {
+        self.clauses.iter().map(String::as_str).filter(|clause| clause.contains(text)).collect()
+    }
+}
+
+/// All that is exported.
+fn exported() -> Vec<Function> {
+    let mut all = Vec::new();
+    for entry in fs::read_dir(in_repository("crates/shootspiral/src")).unwrap() {
+        let text = fs::read_to_string(entry.unwrap().path()).unwrap();
+        for item in text.split("#[no_mangle]\npub extern \"C\" fn ").skip(1) {
+            let (head, _body) = item.split_once("\n{").expect(item);
+            all.push(Function::read(head));
+        }
+    }
+    all
+}
+
 /// What a parameter is in C and in Rust. A slice is two: a pointer, and a length with a name of its
 /// own. The words of an array are counted in C alone.
-fn parameters(written: &str) -> Vec<(String, String)> {
-    let (name, kind) = written.trim().split_once(": ").expect(written);
+fn parameters(name: &str, kind: &str) -> Vec<(String, String)> {
     let length = match name {
         "line" => "length",
         "file" => "file_length",
@@ -42,34 +92,19 @@ fn parameters(written: &str) -> Vec<(String, String)> {
     }
 }
 
-/// The declarations in C and in Rust of a function with this signature.
-fn declarations(signature: &str) -> (String, String) {
-    let (name, rest) = signature.split_once('(').expect(signature);
-    let (arguments, result) = rest.split_once(')').expect(signature);
-    let arguments = arguments.split(',').filter(|argument| !argument.trim().is_empty());
-    let (c, rust): (Vec<String>, Vec<String>) = arguments.flat_map(parameters).unzip();
+/// The declarations of a function in C and in Rust.
+fn declarations(function: &Function) -> (String, String) {
+    let name = &function.name;
+    let arguments = function.parameters.iter().flat_map(|(name, kind)| parameters(name, kind));
+    let (c, rust): (Vec<String>, Vec<String>) = arguments.unzip();
     let c = if c.is_empty() { "void".to_string() } else { c.join(", ") };
     let rust = rust.join(", ");
-    match result.trim() {
+    match function.result.as_str() {
         "" => (format!("void {name}({c})"), format!("fn {name}({rust})")),
         "-> u32" => (format!("uint32_t {name}({c})"), format!("fn {name}({rust}) -> u32")),
         "-> u64" => (format!("uint64_t {name}({c})"), format!("fn {name}({rust}) -> u64")),
         other => panic!("{other}"),
     }
-}
-
-/// All that is exported, as C and as Rust have to declare it.
-fn exported() -> (Vec<String>, Vec<String>) {
-    let mut all = Vec::new();
-    for entry in fs::read_dir(in_repository("crates/shootspiral/src")).unwrap() {
-        let text = fs::read_to_string(entry.unwrap().path()).unwrap();
-        for item in text.split("#[no_mangle]\npub extern \"C\" fn ").skip(1) {
-            let ends = ["requires", "ensures", "{"].map(|word| item.find(word));
-            let end = ends.into_iter().flatten().min().expect(item);
-            all.push(declarations(&on_one_line(&item[..end])));
-        }
-    }
-    all.into_iter().unzip()
 }
 
 fn assert_same(mut declared: Vec<String>, mut exported: Vec<String>) {
@@ -90,7 +125,7 @@ fn the_header_declares_what_is_exported() {
     let code = lines.join(" ").replace("extern \"C\" {", "");
     let mut declared: Vec<String> = code.split(';').map(on_one_line).collect();
     assert_eq!(declared.pop().as_deref(), Some("}"));
-    assert_same(declared, exported().0);
+    assert_same(declared, exported().iter().map(|function| declarations(function).0).collect());
 }
 
 #[test]
@@ -100,5 +135,67 @@ fn the_rust_declarations_are_of_what_is_exported() {
     let code = lines.join(" ");
     let items = code.split("fn ").skip(1).map(|item| item.split(';').next().unwrap());
     let declared = items.map(|item| on_one_line(&format!("fn {item}"))).collect();
-    assert_same(declared, exported().1);
+    assert_same(declared, exported().iter().map(|function| declarations(function).1).collect());
+}
+
+/// The exported functions that are calls on a tree.
+fn calls() -> Vec<Function> {
+    let mut calls = exported();
+    let is_tree = |kind: &str| kind == "&Tree" || kind == "&mut Tree";
+    calls.retain(|function| function.parameters.iter().any(|(_, kind)| is_tree(kind)));
+    calls.retain(|function| function.name != "ss_fresh");
+    calls
+}
+
+/// The constructor of `Call` that an exported function has the name of.
+fn constructor(function: &Function) -> String {
+    if function.name == "ss_write_subtree_control" {
+        return "writeControl".to_string();
+    }
+    let mut words = function.name.strip_prefix("ss_").expect(&function.name).split('_');
+    let first = words.next().unwrap().to_string();
+    words.fold(first, |name, word| name + &word[..1].to_uppercase() + &word[1..])
+}
+
+/// What a call ensures, by its name and its parameters: of the words before and after, which are the
+/// same where the tree is lent unchangeable, the call that is named so has answered r.
+fn answered(call: &Function) -> String {
+    let after = if call.type_of("tree") == Some("&Tree") { "entry" } else { "exit" };
+    let arguments = call.parameters.iter().filter(|(name, _)| name != "tree" && name != "told");
+    let written = arguments.map(|(name, kind)| match kind.as_str() {
+        "&[u8]" | "&mut [u8]" => format!(" (now ({name} .entry))"),
+        _ => format!(" {name}"),
+    });
+    let named = constructor(call) + &written.collect::<String>();
+    let words = format!("(now (tree .entry)) (now (tree .{after}))");
+    format!("ensures {{ λ r. ⌜ Answered {words} ({named}) r ⌝ }}")
+}
+
+#[test]
+fn every_call_on_a_tree_ensures_answered() {
+    for call in calls() {
+        let name = &call.name;
+        assert_eq!(call.clauses_with("requires"), ["requires { ⌜ Kept (now tree) ⌝ }"], "{name}");
+        assert_eq!(call.clauses_with("Answered"), [answered(&call)], "{name}");
+    }
+}
+
+#[test]
+fn every_call_of_the_definitions_is_exported() {
+    let text = fs::read_to_string(in_repository("crates/model/specs/Calls.antt")).unwrap();
+    let (_, after) = text.split_once("\npub data Call : Type 0 where\n").unwrap();
+    let (constructors, _) = after.split_once("\n\n").unwrap();
+    let names = constructors.lines().map(|line| line.trim().split_once(" : ").expect(line).0);
+    assert_same(names.map(str::to_string).collect(), calls().iter().map(constructor).collect());
+}
+
+#[test]
+fn what_is_told_and_replied_is_promised() {
+    for function in exported() {
+        for lent in ["told", "reply"] {
+            let promises = function.clauses_with(&format!("({lent} .exit)"));
+            let name = &function.name;
+            assert_eq!(function.type_of(lent).is_some(), !promises.is_empty(), "{name}: {lent}");
+        }
+    }
 }
