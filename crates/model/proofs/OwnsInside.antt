@@ -4,7 +4,7 @@ use Prim.Native.Nat.{ℕ, suc}
 use mathlib.Core.Bool.{true, false}
 use mathlib.Core.List.{List, [], _∷_}
 use mathlib.Core.Logic.{_≢_}
-use mathlib.Core.Path.{_≡_, refl, ap, sym, _∙_, fun-ext}
+use mathlib.Core.Path.{_≡_, refl, ap, sym, _∙_, fun-ext, subst}
 use borrow.Author.Tests.{eqb-true, eqb-false, ne-eqb}
 use lib.Dec.{eqb}
 use Rattle.model.specs.Checks.{answerNumber, Pass}
@@ -12,12 +12,14 @@ use Rattle.model.specs.Tree.{Tree, Group, newGroup, withOwner, atGroup, 
 use Rattle.model.specs.Functions.{upd}
 use Rattle.model.specs.Hierarchy.{inside, factsOf}
 use Rattle.model.specs.Rules.{mayWrite, processGroup, leaving, hasChild}
-use Rattle.model.specs.Calls.{Call, make, remove, handOver, writeProcs, writeControl, writeSetting, admit, fork, exit, charge, release, read, membership, lineValue, checks}
+use Rattle.model.specs.Calls.{Call, make, remove, handOver, writeProcs, writeControl, writeSetting, admit, fork, exit, charge, release, read, membership, lineValue, checks, verdict}
 use Rattle.model.specs.Effects.{removed, newSet, controlled, written, effect, step, run}
 use Rattle.model.specs.WellFormed.{WellFormed}
 use Rattle.model.specs.Lists.{Accepted, Each}
-use Rattle.model.specs.Containment.{OwnsInside, GivesOutside, ContainedOver, NeverAcross}
+use Rattle.model.specs.Containment.{OwnsInside, GivesOutside, OneKind, ContainedOver, NeverAcross}
+use Rattle.model.specs.declared.Answer.the-variants.{Done}
 use Rattle.model.proofs.FunctionLaws.{split, whether, clash, or-true, upd-same, upd-other, upd-map, upd-keeps}
+use Rattle.model.proofs.CheckLaws.{answer-zero}
 use Rattle.model.proofs.ChainLaws.{inside-up, inside-after-make, inside-after-remove}
 use Rattle.model.proofs.Preservation.{part-after-remove}
 use Rattle.model.proofs.ControlPreservation.{live-after-control, parent-after-control, owner-after-control}
@@ -115,6 +117,32 @@ module _ (t : Tree) (w : WellFormed t) (user d : ℕ) (nz : user ≢ 0) (own : O
       (λ e. let k : Pass (checks (factsOf t) c) = passed t c e in
       rw (step-accepted t c e) (owns-effect c k (reply-number t c ∙ ap answerNumber e) (well-formed-effect t c w k) f))
       (λ x e. rw (step-refused t c x e) own)
+
+-- after such a hand over the group is live, is the user's and lies outside
+given-outside : (t : Tree) (user d giver g : ℕ) → verdict t (handOver giver g user) ≡ Done → inside (parents t) d g ≡ false
+    → OwnsInside (step t (handOver giver g user)) user d → ⊥
+unfolding effect checks Pass
+given-outside t user d giver g e out own =
+    let k = passed t (handOver giver g user) e in
+    let v : Group = withOwner user (t .group g) in
+    let after : OwnsInside (atGroup t g v) user d = rw (step-accepted t (handOver giver g user) e) at own in
+    let up : parents (atGroup t g v) ≡ parents t = fun-ext (upd-keeps (λ x. x .core .parent) (t .group) g v refl) in
+    let live : lives t g ≡ true = (search) in
+    clash (inside (parents t) d g)
+    (sym (ap (λ f. inside f d g) up)
+    ∙ after g (upd-keeps (λ x. x .core .live) (t .group) g v refl g ∙ live) (ap (λ x. x .owner) (upd-same (t .group) g v)))
+    out
+
+pub one-kind : (t : Tree) → WellFormed t → OneKind t
+one-kind t w =
+    record {
+      stays = λ user d c nz own f. owns-step t w user d nz own c f;
+      ends = λ user d c given own.
+          let e : Accepted t (handOver (given .giver) (given .group) user) = subst (Accepted t) (given .call) (given .accepted) in
+          given-outside t user d (given .giver) (given .group)
+          (answer-zero (verdict t (handOver (given .giver) (given .group) user)) (sym (reply-number t _) ∙ e))
+          (given .outside) (subst (λ (x : Call). OwnsInside (step t x) user d) (given .call) own);
+    }
 
 pub never-across : (t : Tree) → WellFormed t → NeverAcross t
 unfolding Each run

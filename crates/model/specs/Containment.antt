@@ -36,18 +36,23 @@ OwnsInside t user d = (g : ℕ) → lives t g ≡ true → owners t g ≡ user �
 abbrev pub NoneAcross : ℕ → Tree → Tree → Type 0
 NoneAcross d t u = (p g h : ℕ) → places t p ≡ at g → places u p ≡ at h → inside (parents t) d g ≡ inside (parents t) d h
 
--- Of one call. Where nobody is named no process moves at all.
-pub record Contained (t : Tree) : Type 0 where
-  pub across : (user d : ℕ) (c : Call) → user ≢ 0 → OwnsInside t user d → caller c ≡ some user → NoneAcross d t (step t c)
-  pub nobody : (c : Call) → caller c ≡ none → (p g h : ℕ) → places t p ≡ at g → places (step t c) p ≡ at h → g ≡ h
-
--- the one kind of call after which not all groups of the user lie inside d: an accepted hand over to him of a group outside
+-- an accepted hand over to the user of a group that lies outside d
 pub record GivesOutside (user d : ℕ) (t : Tree) (c : Call) : Type 0 where
   pub giver : ℕ
   pub group : ℕ
   pub call : c ≡ handOver giver group user
   pub accepted : Accepted t c
   pub outside : inside (parents t) d group ≡ false
+
+-- Of one call. Where nobody is named no process moves at all.
+pub record Contained (t : Tree) : Type 0 where
+  pub across : (user d : ℕ) (c : Call) → user ≢ 0 → OwnsInside t user d → caller c ≡ some user → NoneAcross d t (step t c)
+  pub nobody : (c : Call) → caller c ≡ none → (p g h : ℕ) → places t p ≡ at g → places (step t c) p ≡ at h → g ≡ h
+
+-- Every call of anybody leaves the user's groups inside d, but for the one kind, which does not.
+pub record OneKind (t : Tree) : Type 0 where
+  pub stays : (user d : ℕ) (c : Call) → user ≢ 0 → OwnsInside t user d → (GivesOutside user d t c → ⊥) → OwnsInside (step t c) user d
+  pub ends : (user d : ℕ) (c : Call) → GivesOutside user d t c → OwnsInside (step t c) user d → ⊥
 
 -- Of every list without such a hand over, whoever makes its calls: the user's groups stay inside, and no process crosses the
 -- edge by his hand.

@@ -23,7 +23,7 @@ use Rattle.model.specs.Replies.{reply, textReply, bufferOf}
 use Rattle.model.specs.WellFormed.{WellFormed}
 use Rattle.model.specs.Book.{Book, inBook, freshBook, bookOf}
 use Rattle.model.specs.Lists.{Accepted, log, bookAfter}
-use Rattle.model.specs.Containment.{OwnsInside, Contained, NeverAcross}
+use Rattle.model.specs.Containment.{OwnsInside, Contained, OneKind, NeverAcross}
 use Rattle.model.specs.Marks.{AtLastWrite, MarkIs}
 use Rattle.model.specs.Totals.{Balanced}
 use Rattle.model.specs.declared.Resource.{Resource}
@@ -123,6 +123,7 @@ pub record Demand2 : Type 0 where
   pub lowest : (t : Tree) → WellFormed t → Lowest t
   pub writeBack : (t : Tree) → WellFormed t → WriteBack t
   pub contained : (t : Tree) → WellFormed t → Contained t
+  pub oneKind : (t : Tree) → WellFormed t → OneKind t
   pub never : (t : Tree) → WellFormed t → NeverAcross t
   pub question : (line : List ℕ) → Question line
 
