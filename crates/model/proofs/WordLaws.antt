@@ -1,20 +1,47 @@
--- Laws of specs/Words.antt: a line's body is its front; one word begins at a place; the word that a text begins with; bad words
+-- Laws of specs/Words.antt: a line's body is the line without its final newline, and its front; one word begins at a place; the word that a text begins with; bad words
 -- behind one byte more; what `firstBadWord` and `hasBadWord` answer, and that no other part would do. Assumes nothing.
 use Prim.Native.Nat.{ℕ, zero, suc, _+_, _-_, _≤_, _<_}
 use native.Mathlib.Nat.{suc-add, zero-add}
 use native.Mathlib.Omega.{arith}
 use mathlib.Core.Bool.{true, false, not}
-use mathlib.Core.List.{List, [], _∷_, _++_}
+use mathlib.Core.List.{List, [], _∷_, _++_, nil≢cons, head-eq-of-cons-eq, tail-eq-of-cons-eq}
 use mathlib.Core.Logic.{_⊎_, inl, inr, ⊎-elim, _≢_}
-use mathlib.Core.Path.{_≡_, refl, ap, _∙_}
+use mathlib.Core.Path.{_≡_, refl, ap, sym, _∙_}
 use lib.Dec.{eqb, ltb}
 use lib.ListN.{length, take, drop, length-append, length-take, length-drop}
 use lib.Seq.{take-append-le, drop-append-le}
 use borrow.Author.Tests.{ltb-true, ltb-false, eqb-true, eqb-false, not-true, not-false, eq-eqb, ne-eqb}
-use Rattle.model.specs.Text.{newline, space, body, leadingWord, startsIn}
+use Rattle.model.specs.Text.{newline, space, ended, body, leadingWord, startsIn}
 use Rattle.model.specs.Control.{isControlWord, firstBad, badRest, hasBadWord, Part, firstBadWord}
-use Rattle.model.specs.Words.{byteAt, cut, WordAt, BadWordAt, FirstBad, HasBad}
+use Rattle.model.specs.Words.{Dropped, byteAt, cut, WordAt, BadWordAt, FirstBad, HasBad}
 use Rattle.model.proofs.FunctionLaws.{split, clash}
+
+-- "One final newline is dropped."
+pub body-dropped : (line : List ℕ) → Dropped line (body line)
+unfolding body
+body-dropped [] = inr (refl, ended-not-empty)
+  where
+    ended-not-empty : (u : List ℕ) → [] ≢ ended u
+    ended-not-empty [] e = nil≢cons e
+    ended-not-empty (x ∷ xs) e = nil≢cons e
+body-dropped (b ∷ []) =
+    split (eqb b newline)
+    (λ e. rw e (inl (ap (λ x. x ∷ []) (eqb-true b newline e))))
+    (λ e. rw e (inr (refl, other-end (eqb-false b newline e))))
+  where
+    other-end : b ≢ newline → (u : List ℕ) → b ∷ [] ≢ ended u
+    other-end ne [] e = ne (head-eq-of-cons-eq e)
+    other-end ne (x ∷ []) e = nil≢cons (tail-eq-of-cons-eq e)
+    other-end ne (x ∷ y ∷ ys) e = nil≢cons (tail-eq-of-cons-eq e)
+body-dropped (b ∷ c ∷ cs) =
+    ⊎-elim
+    (λ e. inl (ap (λ (l : List ℕ). b ∷ l) e))
+    (λ (n : (c ∷ cs ≡ body (c ∷ cs)) × ((u : List ℕ) → c ∷ cs ≢ ended u)). inr (ap (λ (l : List ℕ). b ∷ l) (n .0), other-end (n .1)))
+    (body-dropped (c ∷ cs))
+  where
+    other-end : ((u : List ℕ) → c ∷ cs ≢ ended u) → (u : List ℕ) → b ∷ c ∷ cs ≢ ended u
+    other-end n [] e = nil≢cons (sym (tail-eq-of-cons-eq e))
+    other-end n (x ∷ xs) e = n xs (tail-eq-of-cons-eq e)
 
 -- A line's body is its front.
 body-front : (line : List ℕ) → line ≡ body line ++ drop (length (body line)) line

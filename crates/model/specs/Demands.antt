@@ -9,10 +9,10 @@ use mathlib.Core.Path.{_≡_}
 use Rattle.model.specs.Checks.{errnoNumber, Says}
 use Rattle.model.specs.Tree.{Tree, depths, groupOf, controllerOf, cores, lives, parents, places}
 use Rattle.model.specs.Hierarchy.{chain, commonAncestor, on, inside, amount, factsOf}
-use Rattle.model.specs.Text.{ended, decimal}
+use Rattle.model.specs.Text.{ended, body, decimal}
 use Rattle.model.specs.Names.{settingName, fileName}
 use Rattle.model.specs.Control.{hasBadWord, Part, firstBadWord}
-use Rattle.model.specs.Words.{FirstBad, HasBad}
+use Rattle.model.specs.Words.{Dropped, FirstBad, HasBad}
 use Rattle.model.specs.Settings.{settingController, toFigure}
 use Rattle.model.specs.Rooms.{over, actingLimit, Stopped, shortage}
 use Rattle.model.specs.Rules.{mayWrite, processGroup}
@@ -113,6 +113,7 @@ pub record Lowest (t : Tree) : Type 0 where
 -- The question about a control line: it answers the first bad word by its place, and nothing else fits; and a line that is
 -- refused for a bad word has one.
 pub record Question (line : List ℕ) : Type 0 where
+  pub dropped : Dropped line (body line)
   pub answer : FirstBad line (firstBadWord line)
   pub only : (p : Part) → FirstBad line p → p ≡ firstBadWord line
   pub refused : HasBad line (hasBadWord line)

@@ -6,8 +6,12 @@ use mathlib.Core.List.{List}
 use mathlib.Core.Logic.{_⊎_, _≢_}
 use mathlib.Core.Path.{_≡_}
 use lib.ListN.{length, getD, take, drop}
-use Rattle.model.specs.Text.{space, body}
+use Rattle.model.specs.Text.{space, ended, body}
 use Rattle.model.specs.Control.{isControlWord, Part}
+
+-- the text is the line without its final newline: "One final newline is dropped."
+abbrev pub Dropped : List ℕ → List ℕ → Type 0
+Dropped line text = (line ≡ ended text) ⊎ ((line ≡ text) × ((u : List ℕ) → line ≢ ended u))
 
 -- the byte at a place; the end of a text parts words as a space does
 abbrev pub byteAt : List ℕ → ℕ → ℕ

@@ -157,18 +157,37 @@ fn constructor(function: &Function) -> String {
     words.fold(first, |name, word| name + &word[..1].to_uppercase() + &word[1..])
 }
 
-/// What a call ensures, by its name and its parameters: of the words before and after, which are the
-/// same where the tree is lent unchangeable, the call that is named so has answered r.
-fn answered(call: &Function) -> String {
-    let after = if call.type_of("tree") == Some("&Tree") { "entry" } else { "exit" };
+/// The call with its arguments as a contract names it, by the function's name and its parameters.
+fn named(call: &Function) -> String {
     let arguments = call.parameters.iter().filter(|(name, _)| name != "tree" && name != "told");
     let written = arguments.map(|(name, kind)| match kind.as_str() {
         "&[u8]" | "&mut [u8]" => format!(" (now ({name} .entry))"),
         _ => format!(" {name}"),
     });
-    let named = constructor(call) + &written.collect::<String>();
+    constructor(call) + &written.collect::<String>()
+}
+
+/// What a call ensures of the words before and after, which are the same where the tree is lent
+/// unchangeable: that the call which is named so has answered r.
+fn answered(call: &Function) -> String {
+    let after = if call.type_of("tree") == Some("&Tree") { "entry" } else { "exit" };
     let words = format!("(now (tree .entry)) (now (tree .{after}))");
-    format!("ensures {{ λ r. ⌜ Answered {words} ({named}) r ⌝ }}")
+    format!("ensures {{ λ r. ⌜ Answered {words} ({}) r ⌝ }}", named(call))
+}
+
+/// What a function ensures of the words that it tells and of the reply buffer, where it has them.
+fn told(function: &Function) -> Option<String> {
+    function.type_of("told")?;
+    let reply = |name: &str| format!("({name} (view (now (tree .entry))) ({}))", named(function));
+    Some(if function.type_of("reply").is_some() {
+        let both = "(now (told .exit)) (now (reply .exit))";
+        format!("ensures {{ λ r. ⌜ Told {} {both} ⌝ }}", reply("replyOf"))
+    } else if function.type_of("tree").is_some() {
+        format!("ensures {{ λ _. ⌜ now (told .exit) ≡ roomWords {} ⌝ }}", reply("reply"))
+    } else {
+        let part = "partWords (firstBadWord (now (line .entry)))";
+        format!("ensures {{ λ _. ⌜ now (told .exit) ≡ {part} ⌝ }}")
+    })
 }
 
 #[test]
@@ -192,10 +211,9 @@ fn every_call_of_the_definitions_is_exported() {
 #[test]
 fn what_is_told_and_replied_is_promised() {
     for function in exported() {
-        for lent in ["told", "reply"] {
-            let promises = function.clauses_with(&format!("({lent} .exit)"));
-            let name = &function.name;
-            assert_eq!(function.type_of(lent).is_some(), !promises.is_empty(), "{name}: {lent}");
-        }
+        let promised: Vec<String> = told(&function).into_iter().collect();
+        assert_eq!(function.clauses_with("(told .exit)"), promised, "{}", function.name);
+        let buffered = function.clauses_with("(reply .exit)");
+        assert_eq!(buffered.is_empty(), function.type_of("reply").is_none(), "{}", function.name);
     }
 }
