@@ -9,7 +9,7 @@ use mathlib.Core.Path.{_≡_, refl, ap, ap₂, sym, _∙_, subst}
 use lib.ListN.{length, take, drop}
 use lib.Seq.{take-append-seam}
 use denote.Ref.{now}
-use Rattle.model.specs.Functions.{passes}
+use Rattle.model.specs.Functions.{passes, mapped, orElse}
 use Rattle.model.specs.Checks.{errnoNumber, answerNumber, Pass}
 use Rattle.model.specs.Tree.{Tree, lives, parents}
 use Rattle.model.specs.Hierarchy.{chain, on, inside, factsOf}
@@ -18,9 +18,9 @@ use Rattle.model.specs.Control.{firstBadWord}
 use Rattle.model.specs.Settings.{settingController}
 use Rattle.model.specs.Rooms.{shortage}
 use Rattle.model.specs.Rules.{mayWrite, processGroup}
-use Rattle.model.specs.Files.{isPresent, contents, fits}
+use Rattle.model.specs.Files.{isPresent, contents}
 use Rattle.model.specs.Calls.{Call, read, writeSetting, fileText, checks, verdict}
-use Rattle.model.specs.Replies.{textReply, reply}
+use Rattle.model.specs.Replies.{reply}
 use Rattle.model.specs.Book.{Entry}
 use Rattle.model.specs.Containment.{caller, OwnsInside, NoneAcross, GivesOutside}
 use Rattle.model.specs.Demands.{Asks, StoppedAt}
@@ -28,7 +28,6 @@ use Rattle.model.specs.Demands as D
 use Rattle.model.specs.declared.Resource.{Resource}
 use Rattle.model.specs.declared.Setting.{Setting}
 use Rattle.model.specs.declared.File.the-variants.{Value}
-use Rattle.model.specs.declared.Answer.the-variants.{Done}
 use Rattle.model.proofs.ChainLaws.{inside-live}
 use Rattle.model.proofs.NameLaws.{fileNamed-fileName}
 use Rattle.model.proofs.Steps.{passed, group-lives}
@@ -42,12 +41,13 @@ use Rattle.tree.proofs.WalkLaws.{member-at}
 use Rattle.shootspiral.specs.Interface.{groupWord, roomWords, Told}
 use Rattle.demands.specs.Runs.{Runs, start, next, Along}
 use Rattle.demands.specs.Demand2.{Exactly, RoomTold, BadPart, Demand2}
+use Rattle.demands.proofs.Runs.{followed}
+use Rattle.demands.proofs.Texts.{delivered-file, delivered-line}
 
 exact : {xs ys : List ℕ} {c : Call} {n : ℕ} → Answered xs ys c n → Exactly xs ys c n
-unfolding verdict
 exact {xs} {c = c} a =
     record {
-      number = λ x s. answered-number a ∙ ap answerNumber (sym (demands .second .exactly (view xs) c .only x s));
+      says = (verdict (view xs) c, demands .second .exactly (view xs) c .says, answered-number a);
       accepted = answered-effect a;
     }
 
@@ -110,18 +110,14 @@ module _ {xs : List ℕ} {n k : ℕ} {buffer bytes : List ℕ} (g : ℕ) (s : Se
       let o : passes (fileNamed (settingName s)) (isPresent t g) ≡ true = (search) in
       rw named at o
 
-  read-text : reply t (read g (settingName s) buffer) ≡ textReply Done text buffer
-  unfolding checks Pass
-  read-text =
-      let p = read-passed in
-      let f : fits (fileText (factsOf t) g (settingName s)) buffer ≡ true = (search) in
-      demands .second .writeBack t (kept .formed) .shown g s buffer read-lives read-on (rw named at f)
+  read-text : fileText (factsOf t) g (settingName s) ≡ text
+  read-text = ap (λ x. orElse [] (mapped (contents (factsOf t) g) x)) named
 
   delivered-text : take k bytes ≡ text
   delivered-text =
-      let l : k ≡ length text = head-eq-of-cons-eq (told .told ∙ ap (λ x. x .told ∷ []) read-text) in
-      let b : bytes ≡ text ++ drop (length text) buffer = told .buffer ∙ ap (λ x. x .buffer) read-text in
-      rw (l, b) (take-append-seam text (drop (length text) buffer))
+      let d = delivered-file g (settingName s) a z told in
+      let l : k ≡ length text = head-eq-of-cons-eq (d .size) ∙ ap length read-text in
+      rw (l, d .bytes, read-text) (take-append-seam text (drop (length text) buffer))
 
   written-back : {ys : List ℕ} {m : ℕ} (user : ℕ) → mayWrite t user (parents t g) ≡ true
       → Answered xs ys (writeSetting user g (settingName s) (take k bytes)) m → (m ≡ 0) × (view ys ≡ t)
@@ -133,10 +129,6 @@ module _ {xs : List ℕ} {n k : ℕ} {buffer bytes : List ℕ} (g : ℕ) (s : Se
       )
 
 -- Containment along a run.
-kept-run : {xs ys : List ℕ} {es : List Entry} → Runs xs es ys → Kept ys
-kept-run (start k) = k
-kept-run (next r a) = a .kept
-
 contained-run : {xs ys : List ℕ} {es : List Entry} (user d : ℕ) → user ≢ 0 → (r : Runs xs es ys) → OwnsInside (view xs) user d
     → Along (λ t c u. GivesOutside user d t c → ⊥) r
     → OwnsInside (view ys) user d × Along (λ t c u. caller c ≡ some user → NoneAcross d t u) r
@@ -144,7 +136,7 @@ unfolding Along
 contained-run user d nz (start k) own given = (own, tt)
 contained-run user d nz (next {ys = ys} {c = c} r a) own given =
     let before = contained-run user d nz r own (given .0) in
-    let w = kept-run r .formed in (
+    let w = followed r .kept .formed in (
       subst (λ (u : Tree). OwnsInside u user d) (sym (a .tree)) (owns-step (view ys) w user d nz (before .0) c (given .1)),
       (
         before .1,
@@ -160,7 +152,9 @@ demand-2-of-the-code =
       question = λ {line} e. (firstBadWord line, e, demands .second .question line .answer);
       part = λ {r} {s} p.
           let f = demands .second .question (now s) .answer in
-          record { first = f; word = p .bytes ∙ f .own };
+          (firstBadWord (now s), record { first = f; block = p .block; offset = p .offset; word = p .bytes ∙ f .own });
+      shown = delivered-file;
+      standing = delivered-line;
       back = λ user g s k a z told may w. written-back g s k a z told user may w;
       contained = contained-run;
       fresh = λ {m} {xs} z user d nz.

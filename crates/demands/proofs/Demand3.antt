@@ -2,25 +2,36 @@
 use Prim.Native.Nat.{ℕ}
 use mathlib.Core.List.{List, [], _∷_, _++_, nil≢cons, head-eq-of-cons-eq, tail-eq-of-cons-eq}
 use mathlib.Core.Path.{_≡_, refl, ap, ap₂, sym, _∙_, subst, subst₂}
+use Rattle.model.specs.Functions.{mapped, orElse}
 use Rattle.model.specs.Tree.{Tree, groupOf}
-use Rattle.model.specs.Calls.{Call}
+use Rattle.model.specs.Hierarchy.{factsOf}
+use Rattle.model.specs.Text.{ended, decimal}
+use Rattle.model.specs.Names.{fileName}
+use Rattle.model.specs.Settings.{toFigure}
+use Rattle.model.specs.Files.{contents}
+use Rattle.model.specs.Calls.{Call, fileText}
 use Rattle.model.specs.Effects.{step, run}
 use Rattle.model.specs.Effects as F
 use Rattle.model.specs.Replies.{reply}
-use Rattle.model.specs.Book.{Book, Entry, freshBook, bookOf, fed}
+use Rattle.model.specs.Book.{Book, inBook, Entry, freshBook, bookOf, fed}
 use Rattle.model.specs.Lists.{log}
 use Rattle.model.specs.Marks.{AtLastWrite, MarkIs}
 use Rattle.model.specs.Totals.{Balanced}
 use Rattle.model.specs.Demands.{Alike, Bounded, NoneOver}
 use Rattle.model.specs.Demands as D
+use Rattle.model.specs.declared.Resource.{Resource}
 use Rattle.model.specs.declared.Resource.the-variants.{Pages}
 use Rattle.model.specs.declared.Limit.the-variants.{Figure}
+use Rattle.model.specs.declared.File.the-variants.{Current}
+use Rattle.model.proofs.NameLaws.{fileNamed-fileName}
 use Rattle.model.proofs.Demands.{demands}
 use Rattle.tree.specs.Layout.{view}
 use Rattle.tree.specs.Kept.{Fresh}
-use Rattle.demands.specs.Runs.{Runs}
-use Rattle.demands.specs.Demand3.{callsOf, Kept3, Demand3}
-use Rattle.demands.proofs.Runs.{Followed, log-more, followed}
+use Rattle.demands.specs.Runs.{Runs, callsOf, Followed}
+use Rattle.demands.specs.Texts.{Delivered}
+use Rattle.demands.specs.Demand3.{Kept3, Demand3}
+use Rattle.demands.proofs.Runs.{log-more, followed}
+use Rattle.demands.proofs.Texts.{delivered-file}
 
 -- An entry of the log is a call of the list.
 record Found (t : Tree) (cs : List Call) (c : Call) (n : ℕ) (before : List Entry) : Type 0 where
@@ -61,11 +72,23 @@ module _ {xs ys : List ℕ} {es : List Entry} (b : Book) (f : Followed xs es ys)
   book : fed b (log (view xs) (callsOf es)) ≡ fed b es
   book = ap (fed b) (sym (f .entries))
 
+  alike : Alike (view ys) (fed b es)
+  alike = subst₂ (λ (t : Tree) (x : Book). Alike t x) (sym (f .tree)) book (d .alike)
+
+  current-text : (r : Resource) (g : ℕ)
+      → fileText (factsOf (view ys)) g (fileName (Current r)) ≡ ended (decimal (toFigure r (inBook (fed b es) r g)))
+  unfolding contents
+  current-text r g =
+      ap (λ x. orElse [] (mapped (contents (factsOf (view ys)) g) x)) (fileNamed-fileName (Current r))
+      ∙ ap (λ n. ended (decimal (toFigure r n))) (alike .amount r g)
+
   carried : Kept3 xs b es ys
   carried =
       record {
         kept = f .kept;
-        alike = subst₂ (λ (t : Tree) (x : Book). Alike t x) (sym (f .tree)) book (d .alike);
+        alike = alike;
+        shows = λ {buffer} {told} {bytes} r g a z t.
+            subst (λ (x : List ℕ). Delivered x buffer told bytes) (current-text r g) (delivered-file g (fileName (Current r)) a z t);
         bounded = subst Bounded book (d .bounded);
         mark =
             subst (λ (x : Book). (g l : ℕ) → x .group g .limit Pages ≡ Figure l → MarkIs (view xs) (callsOf es) g l (x .mark g)) book (d .mark);
@@ -92,6 +115,7 @@ module _ {m : ℕ} {xs : List ℕ} (z : Fresh m xs) (cs : List Call) where
 pub demand-3-of-the-code : Demand3
 demand-3-of-the-code =
     record {
+      follows = followed;
       run = λ {xs} {ys} {es} r.
           let f = followed r in
           carried (bookOf (view xs)) f (demands .third (view xs) (f .begun .formed) (callsOf es));

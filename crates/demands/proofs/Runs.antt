@@ -1,6 +1,6 @@
 -- Whatever runs as the public contracts promise is a run of the definitions. Assumes nothing.
 use Prim.Native.Nat.{ℕ}
-use mathlib.Core.List.{List, [], _∷_, _++_, map, map-append}
+use mathlib.Core.List.{List, [], _∷_, _++_, map-append}
 use mathlib.Core.Path.{_≡_, refl, ap, ap₂, sym, _∙_}
 use Rattle.model.specs.Tree.{Tree}
 use Rattle.model.specs.Calls.{Call}
@@ -10,15 +10,7 @@ use Rattle.model.specs.Book.{Entry}
 use Rattle.model.specs.Lists.{log}
 use Rattle.model.proofs.Books.{run-more}
 use Rattle.tree.specs.Layout.{view}
-use Rattle.tree.specs.Kept.{Kept}
-use Rattle.demands.specs.Runs.{Runs, start, next}
-use Rattle.demands.specs.Demand3.{callsOf}
-
-pub record Followed (xs : List ℕ) (es : List Entry) (ys : List ℕ) : Type 0 where
-  pub begun : Kept xs
-  pub entries : es ≡ log (view xs) (callsOf es)
-  pub tree : view ys ≡ run (view xs) (callsOf es)
-  pub kept : Kept ys
+use Rattle.demands.specs.Runs.{Runs, start, next, callsOf, Followed}
 
 pub log-more : (t : Tree) (cs : List Call) (c : Call)
     → log t cs ++ (record { call = c; number = reply (run t cs) c .number } ∷ []) ≡ log t (cs ++ (c ∷ []))

@@ -1,13 +1,13 @@
--- Demand 2 of the code, from the contracts alone: exactly when, what charge and fork tell, the question about a control line,
--- writing back, containment. Assumes nothing.
-use Prim.Native.Nat.{ℕ, suc}
+-- Demand 2 of the code, from the contracts alone: exactly when; what charge and fork tell; the question about a control line; texts
+-- delivered and written back; containment. Assumes nothing.
+use Prim.Native.Nat.{ℕ, suc, _+_}
 use mathlib.Core.Bool.{true}
 use mathlib.Core.List.{List, [], _∷_}
 use mathlib.Core.Logic.{_≢_}
 use mathlib.Core.Option.{none, some}
 use mathlib.Core.Path.{_≡_}
 use lib.ListN.{take}
-use denote.Ref.{RefT, now}
+use denote.Ref.{RefT, ptr, now}
 use Rattle.model.specs.Checks.{errnoNumber, answerNumber, Says}
 use Rattle.model.specs.Tree.{Tree, lives, parents, depths}
 use Rattle.model.specs.Hierarchy.{factsOf}
@@ -17,7 +17,8 @@ use Rattle.model.specs.Control.{Part, firstBadWord}
 use Rattle.model.specs.Words.{cut, FirstBad}
 use Rattle.model.specs.Rooms.{shortage}
 use Rattle.model.specs.Rules.{mayWrite, processGroup}
-use Rattle.model.specs.Calls.{Call, writeSetting, read, checks}
+use Rattle.model.specs.Files.{membershipLine}
+use Rattle.model.specs.Calls.{Call, writeSetting, read, membership, fileText, checks}
 use Rattle.model.specs.Effects.{effect}
 use Rattle.model.specs.Replies.{reply}
 use Rattle.model.specs.Book.{Entry}
@@ -32,10 +33,11 @@ use Rattle.tree.specs.Calling.{Answered}
 use Rattle.text.specs.Control.{IsPart}
 use Rattle.shootspiral.specs.Interface.{groupWord, roomWords, partWords, Told}
 use Rattle.demands.specs.Runs.{Runs, Along}
+use Rattle.demands.specs.Texts.{Delivered}
 
 -- "Calls are turned away exactly when a listed rule .. says so, and otherwise do exactly what the rule says."
 pub record Exactly (xs ys : List ℕ) (c : Call) (n : ℕ) : Type 0 where
-  pub number : (a : Answer) → Says (checks (factsOf (view xs)) c) a → n ≡ answerNumber a
+  pub says : (a : Answer) × Says (checks (factsOf (view xs)) c) a × (n ≡ answerNumber a)
   pub accepted : n ≡ 0 → view ys ≡ effect (view xs) c
 
 -- The words that a charge or a fork of process p tells, by the number k that it answers: no group, and depth plus one; the first
@@ -48,10 +50,12 @@ pub record RoomTold (t : Tree) (r : Resource) (n p k : ℕ) (told : List ℕ) : 
   -- the word for no group is no group's number
   pub apart : (h : ℕ) → lives t h ≡ true → h ≢ groupWord none
 
--- the part that is handed back is the one that the question asks for, and these are its bytes
-pub record BadPart (line bytes : List ℕ) (p : Part) : Type 0 where
-  pub first : FirstBad line p
-  pub word : bytes ≡ cut (body line) (p .start) (p .size)
+-- r is the part p of the caller's own line s, in the same memory, and p is what the question asks for
+pub record BadPart (r s : RefT (List ℕ)) (p : Part) : Type 0 where
+  pub first : FirstBad (now s) p
+  pub block : ptr r .0 ≡ ptr s .0
+  pub offset : ptr r .1 ≡ ptr s .1 + p .start
+  pub word : now r ≡ cut (body (now s)) (p .start) (p .size)
 
 pub record Demand2 : Type 0 where
   pub exactly : {xs ys : List ℕ} {c : Call} {n : ℕ} → Answered xs ys c n → Exactly xs ys c n
@@ -60,7 +64,12 @@ pub record Demand2 : Type 0 where
   -- told as two words, and as a part of the lent line
   pub question : {line told : List ℕ} → told ≡ partWords (firstBadWord line)
       → (p : Part) × (told ≡ p .start ∷ p .size ∷ []) × FirstBad line p
-  pub part : {r s : RefT (List ℕ)} → IsPart r s (firstBadWord (now s)) → BadPart (now s) (now r) (firstBadWord (now s))
+  pub part : {r s : RefT (List ℕ)} → IsPart r s (firstBadWord (now s)) → (p : Part) × BadPart r s p
+  -- the text of a file that is there, and of a membership line
+  pub shown : {xs ys buffer told bytes : List ℕ} {n : ℕ} (g : ℕ) (file : List ℕ) → Answered xs ys (read g file buffer) n → n ≡ 0
+      → Told (reply (view xs) (read g file buffer)) told bytes → Delivered (fileText (factsOf (view xs)) g file) buffer told bytes
+  pub standing : {xs ys buffer told bytes : List ℕ} {n : ℕ} (p : ℕ) → Answered xs ys (membership p buffer) n → n ≡ 0
+      → Told (reply (view xs) (membership p buffer)) told bytes → Delivered (membershipLine (view xs) p) buffer told bytes
   -- "What a settings file shows can be written back by whoever may write it, and changes nothing": the first k bytes of what a
   -- read delivered, on the words that it read
   pub back : {xs ys : List ℕ} {n m k : ℕ} {buffer bytes : List ℕ} (user g : ℕ) (s : Setting) → Kept xs

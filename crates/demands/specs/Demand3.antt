@@ -1,29 +1,37 @@
 -- Demand 3 of the code, from the contracts alone: what holds of words and book wherever a run has come to. Assumes nothing.
 use Prim.Native.Nat.{ℕ}
-use mathlib.Core.List.{List, [], _∷_, _++_, map}
+use mathlib.Core.List.{List, [], _∷_, _++_}
 use mathlib.Core.Path.{_≡_}
 use Rattle.model.specs.Tree.{groupOf}
-use Rattle.model.specs.Calls.{Call}
-use Rattle.model.specs.Book.{Book, Entry, freshBook, bookOf, fed}
+use Rattle.model.specs.Text.{ended, decimal}
+use Rattle.model.specs.Names.{fileName}
+use Rattle.model.specs.Settings.{toFigure}
+use Rattle.model.specs.Calls.{Call, read}
+use Rattle.model.specs.Replies.{reply}
+use Rattle.model.specs.Book.{Book, inBook, Entry, freshBook, bookOf, fed}
 use Rattle.model.specs.Marks.{AtLastWrite, MarkIs}
 use Rattle.model.specs.Totals.{Balanced}
 use Rattle.model.specs.Demands.{Alike, Bounded, Adds, NoneOver}
 use Rattle.model.specs.declared.Resource.{Resource}
 use Rattle.model.specs.declared.Resource.the-variants.{Pages}
 use Rattle.model.specs.declared.Limit.the-variants.{Figure}
+use Rattle.model.specs.declared.File.the-variants.{Current}
 use Rattle.tree.specs.Layout.{view}
 use Rattle.tree.specs.Kept.{Kept, Fresh}
-use Rattle.demands.specs.Runs.{Runs}
+use Rattle.tree.specs.Calling.{Answered}
+use Rattle.shootspiral.specs.Interface.{Told}
+use Rattle.demands.specs.Runs.{Runs, callsOf, Followed}
+use Rattle.demands.specs.Texts.{Delivered}
 
-abbrev pub callsOf : List Entry → List Call
-callsOf es = map (λ (e : Entry). e .call) es
-
--- The words xs and the book b before the run, its calls with the numbers answered, the words ys after it: they keep the invariant and
--- stand alike with the book; every mark is the usage at the last write; every accepted charge or birth left no group on its way
--- up over its limit; and nothing is lost.
+-- The words xs and the book b before the run, its calls with the numbers answered, the words ys after it. They keep the invariant and
+-- stand alike with the book, and a read of memory.current or pids.current delivers the book's figure. Every mark is the usage at the
+-- last write, or at the start. Every accepted charge or birth left no group on its way up over its limit. Nothing is lost.
 pub record Kept3 (xs : List ℕ) (b : Book) (es : List Entry) (ys : List ℕ) : Type 0 where
   pub kept : Kept ys
   pub alike : Alike (view ys) (fed b es)
+  pub shows : {buffer told bytes : List ℕ} {n : ℕ} (r : Resource) (g : ℕ) → Answered ys ys (read g (fileName (Current r)) buffer) n → n ≡ 0
+      → Told (reply (view ys) (read g (fileName (Current r)) buffer)) told bytes
+      → Delivered (ended (decimal (toFigure r (inBook (fed b es) r g)))) buffer told bytes
   pub bounded : Bounded (fed b es)
   pub mark : (g l : ℕ) → fed b es .group g .limit Pages ≡ Figure l → MarkIs (view xs) (callsOf es) g l (fed b es .mark g)
   pub accepted : (r : Resource) (p : ℕ) (c : Call) (before after : List Entry) → Adds r p c
@@ -33,6 +41,7 @@ pub record Kept3 (xs : List ℕ) (b : Book) (es : List Entry) (ys : List ℕ) : 
 
 -- from any words that keep the invariant, with the book of what they stand for; and from those of a fresh tree
 pub record Demand3 : Type 0 where
+  pub follows : {xs ys : List ℕ} {es : List Entry} → Runs xs es ys → Followed xs es ys
   pub run : {xs ys : List ℕ} {es : List Entry} → Runs xs es ys → Kept3 xs (bookOf (view xs)) es ys
   pub fresh : {m : ℕ} {xs ys : List ℕ} {es : List Entry} → Fresh m xs → Runs xs es ys → Kept3 xs (freshBook m) es ys
   pub mark : {m : ℕ} {xs ys : List ℕ} {es : List Entry} → Fresh m xs → Runs xs es ys

@@ -20,7 +20,7 @@ use Rattle.model.specs.Replies.{reply}
 use Rattle.model.specs.Book.{Book, enterValue, enter, bookStep, bookOf, fed}
 use Rattle.model.specs.WellFormed.{WellFormed}
 use Rattle.model.specs.Lists.{log, bookAfter, Each, Never, Last}
-use Rattle.model.specs.Marks.{SetsMemoryMax, AtLastWrite, MarkIs}
+use Rattle.model.specs.Marks.{SetsMemoryMax, AtLastWrite, AtStart, MarkIs}
 use Rattle.model.specs.declared.Resource.the-variants.{Pages, Processes}
 use Rattle.model.specs.declared.Limit.{Limit}
 use Rattle.model.specs.declared.Limit.the-variants.{NoLimit, Figure}
@@ -262,3 +262,39 @@ mark-is t w cs g l e =
     (λ y. inl y)
     (λ (u : Unwritten t (bookOf t) cs g). inr (record { unwritten = u .never; limit = u .limit l e; marked = u .mark }))
     (written-or-not cs t (bookOf t) (state-begin t w) g)
+
+-- A list settles the mark.
+never-last : (P Q : Tree → Call → Type 0) (cs : List Call) (t : Tree) → Never P t cs → Last P Q t cs → ⊥
+unfolding Each Last
+never-last P Q [] t n l = l
+never-last P Q (c ∷ cs) t n l =
+    ⊎-elim
+    (λ (y : P t c × Q t c × Never P (step t c) cs). n .0 (y .0))
+    (λ (y : Last P Q (step t c) cs). never-last P Q cs (step t c) (n .1) y)
+    l
+
+-- two things that hold of the last such call hold of one call
+pub one-last : (P Q R : Tree → Call → Type 0) (A : Type 0) → ((t : Tree) (c : Call) → Q t c → R t c → A)
+    → (cs : List Call) (t : Tree) → Last P Q t cs → Last P R t cs → A
+unfolding Last
+one-last P Q R A f [] t x y = absurd x
+one-last P Q R A f (c ∷ cs) t x y =
+    ⊎-elim
+    (λ (a : P t c × Q t c × Never P (step t c) cs). ⊎-elim
+    (λ (b : P t c × R t c × Never P (step t c) cs). f t c (a .1) (b .1))
+    (λ (b : Last P R (step t c) cs). absurd (never-last P R cs (step t c) (a .2) b)) y)
+    (λ (a : Last P Q (step t c) cs). ⊎-elim
+    (λ (b : P t c × R t c × Never P (step t c) cs). absurd (never-last P Q cs (step t c) (b .2) a))
+    (λ (b : Last P R (step t c) cs). one-last P Q R A f cs (step t c) a b) y)
+    x
+
+pub one-mark : (t : Tree) (cs : List Call) (g l m n : ℕ) → MarkIs t cs g l m → MarkIs t cs g l n → m ≡ n
+one-mark t cs g l m n x y =
+    ⊎-elim
+    (λ (a : AtLastWrite t cs g m). ⊎-elim
+    (λ (b : AtLastWrite t cs g n). one-last (SetsMemoryMax g) _ _ (m ≡ n) (λ s c p q. p ∙ sym q) cs t a b)
+    (λ (b : AtStart t cs g l n). absurd (never-last (SetsMemoryMax g) _ cs t (b .unwritten) a)) y)
+    (λ (a : AtStart t cs g l m). ⊎-elim
+    (λ (b : AtLastWrite t cs g n). absurd (never-last (SetsMemoryMax g) _ cs t (a .unwritten) b))
+    (λ (b : AtStart t cs g l n). a .marked ∙ sym (b .marked)) y)
+    x

@@ -5,8 +5,6 @@ use mathlib.Core.Bool.{true, false}
 use mathlib.Core.List.{List, [], _∷_}
 use mathlib.Core.Logic.{_≢_}
 use mathlib.Core.Path.{_≡_, refl, ap, sym, _∙_, fun-ext, subst}
-use borrow.Author.Tests.{eqb-true, eqb-false, ne-eqb}
-use lib.Dec.{eqb}
 use Rattle.model.specs.Checks.{answerNumber, Pass}
 use Rattle.model.specs.Tree.{Tree, Group, newGroup, withOwner, atGroup, lives, parents, depths, owners}
 use Rattle.model.specs.Functions.{upd}
@@ -18,7 +16,7 @@ use Rattle.model.specs.WellFormed.{WellFormed}
 use Rattle.model.specs.Lists.{Accepted, Each}
 use Rattle.model.specs.Containment.{OwnsInside, GivesOutside, OneKind, ContainedOver, NeverAcross}
 use Rattle.model.specs.declared.Answer.the-variants.{Done}
-use Rattle.model.proofs.FunctionLaws.{split, whether, clash, or-true, upd-same, upd-other, upd-map, upd-keeps}
+use Rattle.model.proofs.FunctionLaws.{split, whether, clash, upd-same, upd-other, upd-map, upd-keeps}
 use Rattle.model.proofs.CheckLaws.{answer-zero}
 use Rattle.model.proofs.ChainLaws.{inside-up, inside-after-make, inside-after-remove}
 use Rattle.model.proofs.Preservation.{part-after-remove}
@@ -26,16 +24,12 @@ use Rattle.model.proofs.ControlPreservation.{live-after-control, parent
 use Rattle.model.proofs.SettingPreservation.{part-after-setting}
 use Rattle.model.proofs.Steps.{step-accepted, step-refused, by-verdict, passed, no-child, well-formed-effect, well-formed-step}
 use Rattle.model.proofs.Books.{reply-number}
-use Rattle.model.proofs.Containment.{contained}
+use Rattle.model.proofs.Containment.{owner-of-write, contained}
 
 -- live groups, parents and owners are all that counts
 owns-same : (t u : Tree) (user d : ℕ) → ((g : ℕ) → lives u g ≡ lives t g) → parents u ≡ parents t → ((g : ℕ) → owners u g ≡ owners t g)
     → OwnsInside t user d → OwnsInside u user d
 owns-same t u user d l p o own g y e = ap (λ f. inside f d g) p ∙ own g (sym (l g) ∙ y) (sym (o g) ∙ e)
-
--- who may write a group and is not user 0 owns it
-pub owner-of-write : (t : Tree) (user g : ℕ) → user ≢ 0 → mayWrite t user g ≡ true → owners t g ≡ user
-owner-of-write t user g nz h = sym (eqb-true user (owners t g) (or-true (eqb user 0) _ h (ne-eqb user 0 nz)))
 
 module _ (t : Tree) (w : WellFormed t) (user d : ℕ) (nz : user ≢ 0) (own : OwnsInside t user d) where
   -- a group is made: by the user under one of his own, or by somebody else

@@ -17,7 +17,8 @@ use Rattle.model.specs.Effects.{effect, step, fresh, run}
 use Rattle.model.specs.Replies.{chargeAnswer, forkAnswer, reply, replyBy}
 use Rattle.model.specs.Book.{enter, bookStep, fed, freshBook}
 use Rattle.model.specs.Lists.{log}
-use Rattle.model.specs.Worked.{Evening, holds, allHold, table, limitsAndCharges, allBooked, marks, rewriting, rewritten}
+use Rattle.model.specs.Totals.{total}
+use Rattle.model.specs.Worked.{Evening, holds, allHold, table, limitsAndCharges, allBooked, marks, rewriting, rewritten, totals}
 
 -- `allHold` with everything open that a row computes with: whoever unfolds it unfolds the whole line
 unfoldable pub computed : List Evening → Bool
@@ -41,3 +42,11 @@ rewritten-hold = refl
 pub rewriting-holds : allHold (rewriting ∷ []) ≡ true
 unfolding computed
 rewriting-holds = refl
+
+pub totals-before-release : totals limitsAndCharges 17 ≡ 8 ∷ 2 ∷ 1 ∷ 1 ∷ []
+unfolding computed log total
+totals-before-release = refl
+
+pub totals-at-the-end : totals limitsAndCharges 20 ≡ 8 ∷ 8 ∷ 1 ∷ 1 ∷ []
+unfolding computed log total
+totals-at-the-end = refl

@@ -179,9 +179,14 @@ pub record FromFresh (m : ℕ) : Type 0 where
       → AtLastWrite (fresh m) cs g (bookAfter (fresh m) (freshBook m) cs .mark g)
   pub owns : (user d : ℕ) → user ≢ 0 → OwnsInside (fresh m) user d
 
+-- What is said of marks settles them.
+abbrev pub OneMark : Type 0
+OneMark = (t : Tree) (cs : List Call) (g l m n : ℕ) → MarkIs t cs g l m → MarkIs t cs g l n → m ≡ n
+
 pub record Demands : Type 0 where
   pub reaching : Reaching
   pub first : Demand1
   pub second : Demand2
   pub third : (t : Tree) → WellFormed t → (cs : List Call) → Demand3 t (bookOf t) cs
   pub fresh : (m : ℕ) → FromFresh m
+  pub oneMark : OneMark

@@ -48,7 +48,7 @@ pub record Blank (group : ℕ → Group) (process : ℕ → Process) : Type 0 wh
   pub dead : (g : ℕ) → group g .core .live ≡ false → group g ≡ noGroup
   pub free : (p : ℕ) → process p .place ≡ nowhere → process p ≡ noProcess
 
--- "The root's is always 0": its owner
+-- "the root's is always 0": its owner
 abbrev pub RootOwned : (ℕ → ℕ) → Type 0
 RootOwned owner = owner 0 ≡ 0
 

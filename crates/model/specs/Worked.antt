@@ -14,9 +14,10 @@ use Rattle.model.specs.Text.{bytes, sameBytes}
 use Rattle.model.specs.Calls.{Call, make, remove, handOver, writeProcs, writeControl, writeSetting, admit, exit, charge, release, read, membership}
 use Rattle.model.specs.Effects.{step, fresh}
 use Rattle.model.specs.Replies.{Reply, reply}
-use Rattle.model.specs.Book.{Book, inBook, freshBook}
-use Rattle.model.specs.Lists.{bookAfter}
-use Rattle.model.specs.declared.Resource.the-variants.{Pages}
+use Rattle.model.specs.Book.{Book, inBook, freshBook, Entry}
+use Rattle.model.specs.Lists.{log, bookAfter}
+use Rattle.model.specs.Totals.{brought, taken, total}
+use Rattle.model.specs.declared.Resource.the-variants.{Pages, Processes}
 use Rattle.model.specs.declared.Limit.{Limit}
 use Rattle.model.specs.declared.Limit.the-variants.{NoLimit, Figure}
 
@@ -204,8 +205,11 @@ pub record Booked : Type 0 where
 abbrev pub booked : ℕ → ℕ → ℕ → ℕ → ℕ → Booked
 booked n g l u m = record { calls = n; group = g; limit = l; usage = u; mark = m }
 
+abbrev pub firstCalls : Evening → ℕ → List Call
+firstCalls e n = map (λ (r : Row). r .call) (take n (e .rows))
+
 abbrev pub bookOfEvening : Evening → ℕ → Book
-bookOfEvening e n = bookAfter (fresh (e .machine)) (freshBook (e .machine)) (map (λ (r : Row). r .call) (take n (e .rows)))
+bookOfEvening e n = bookAfter (fresh (e .machine)) (freshBook (e .machine)) (firstCalls e n)
 
 abbrev pub isFigure : ℕ → Limit → Bool
 isFigure n NoLimit = false
@@ -227,7 +231,7 @@ marks =
     booked 5 1 10 0 0 ∷ booked 6 2 8 0 0 ∷ booked 9 1 10 8 0 ∷ booked 9 2 8 8 0
     ∷ booked 12 1 10 6 0 ∷ booked 13 1 5 6 6 ∷ booked 13 2 8 6 0 ∷ booked 15 1 5 6 6 ∷ []
 
--- A second write marks anew, be it more or less; a limit of processes, a charge and a release leave the mark.
+-- A second write marks anew, less than before too; a limit of processes, a charge, a release and a refused write leave the mark.
 abbrev pub rewriting : Evening
 rewriting =
     evening 16
@@ -246,3 +250,13 @@ rewriting =
 
 unfoldable pub rewritten : List Booked
 rewritten = booked 6 1 5 6 6 ∷ booked 7 1 5 2 6 ∷ booked 8 1 10 2 2 ∷ booked 9 1 10 3 2 ∷ booked 10 1 10 3 2 ∷ booked 11 1 10 3 2 ∷ []
+
+-- Pages and processes that came in and went out in P1 to P5, all but the last three calls: 8 charged and 2 released, one birth and one
+-- exit; and at the end, where 6 more are released and a release of 7 is refused twice.
+abbrev pub logOfEvening : Evening → ℕ → List Entry
+logOfEvening e n = log (fresh (e .machine)) (firstCalls e n)
+
+abbrev pub totals : Evening → ℕ → List ℕ
+totals e n =
+    let es : List Entry = logOfEvening e n in
+    total (brought Pages) es ∷ total (taken Pages) es ∷ total (brought Processes) es ∷ total (taken Processes) es ∷ []

@@ -21,7 +21,7 @@ pub record Copied (old : List ℕ) (i : ℕ) (text new : List ℕ) (k : ℕ) : T
   pub end : k ≡ i + length text
   pub whole : new ≡ take i old ++ text ++ drop (i + length text) old
 
--- "28: reply buffer shorter than the reply"
+-- 28: "reply buffer shorter than the reply"
 abbrev pub delivery : List ℕ → List ℕ → Answer
 delivery text buffer = pick (fits text buffer) Answer.Done (Answer.Refused Errno.Enospc)
 
