@@ -18,7 +18,8 @@ pub(crate) fn p9() {
 //     0
 //     └ 1 (user 0)
 //       ├ 2 C0 (user 1000)
-//       │ └ 4 C00 (user 1000)
+//       │ ├ 4 C00 (user 1000)
+//       │ └ 6 C01 (user 1000)
 //       └ 3 C1 (user 1000)
 //         └ 5 C10 (user 1000), process 9 of user 1000
 fn delegated() -> Tree
@@ -32,6 +33,7 @@ fn delegated() -> Tree
     hand_over(&mut tree, 0, 3, 1000);
     make(&mut tree, 1000, 2, 4);
     make(&mut tree, 1000, 3, 5);
+    make(&mut tree, 1000, 2, 6);
     admit(&mut tree, 9, 1000);
     write_procs(&mut tree, 0, 5, 9);
     tree

@@ -66,6 +66,7 @@ fn write_two_weights(tree: &mut Tree)
 pub(crate) fn p8() {
     let mut tree = one_group();
     write_weight(&mut tree, 1);
+    read(&tree, 1, b"cpu.weight");
     write_weight(&mut tree, 10000);
     write_weight(&mut tree, 0);
     write_weight(&mut tree, 10001);

@@ -23,3 +23,4 @@ pub mod Totals
 pub mod Demands
 pub mod Worked
 pub mod Refusals
+pub mod Outcomes

@@ -148,7 +148,9 @@ weights =
     (succeeds (make 0 0 1)
     ∷ succeeds (control 0 0 "+cpu")
     ∷ succeeds (setting 0 1 "cpu.weight" "1")
+    ∷ reads 1 "cpu.weight" "1\n"
     ∷ succeeds (setting 0 1 "cpu.weight" "10000")
+    ∷ reads 1 "cpu.weight" "10000\n"
     ∷ refuses (setting 0 1 "cpu.weight" "0") 34
     ∷ refuses (setting 0 1 "cpu.weight" "10001") 34
     ∷ refuses (setting 0 1 "cpu.weight" "1 2") 22
@@ -163,7 +165,7 @@ lastWord =
     ∷ reads 0 "cgroup.subtree_control" "memory\n"
     ∷ [])
 
--- P10: 1 is the parent; 2 is C0 with C00, which is 4, below it; 3 is C1 with C10, which is 5
+-- P10: 1 is the parent; 2 is C0, with C00, which is 4, and C01, which is 6, below it; 3 is C1, with C10, which is 5
 abbrev pub delegation : Evening
 delegation =
     evening 0
@@ -173,6 +175,7 @@ delegation =
     ∷ succeeds (handOver 0 2 7)
     ∷ succeeds (handOver 0 3 7)
     ∷ succeeds (make 7 2 4)
+    ∷ succeeds (make 7 2 6)
     ∷ succeeds (make 7 3 5)
     ∷ succeeds (admit 9 7)
     ∷ succeeds (procs 0 5 "9")

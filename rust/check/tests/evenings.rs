@@ -1,29 +1,14 @@
 //! The evenings worked through in document 01, one test each, asked of the model and of the proved
 //! host. The answers are the paper's, written out: they hold the model itself to the paper.
 
+#[macro_use]
+mod common;
+
+use common::{charge, fork, read};
+use shootspiral_check::Calls;
 use shootspiral_check::calls::NO_GROUP;
-use shootspiral_check::model::Model;
-use shootspiral_check::{Calls, Linked};
 
 const ROOT: u64 = 0;
-
-/// A test of this name for the model, and one for the proved host.
-macro_rules! both {
-    ($($name:ident)*) => {
-        mod model {
-            $(#[test]
-            fn $name() {
-                super::$name::<super::Model>();
-            })*
-        }
-        mod linked {
-            $(#[test]
-            fn $name() {
-                super::$name::<super::Linked>();
-            })*
-        }
-    };
-}
 
 both! {
     p1_to_p5_charges_up_the_chain
@@ -36,29 +21,6 @@ both! {
     depths
     consulted_counts
     first_bad_words
-}
-
-fn read<H: Calls>(host: &H, group: u64, file: &str) -> Result<String, u32> {
-    let (mut reply, mut told) = ([b'.'; 1000], [77]);
-    match host.read(group, file.as_bytes(), &mut reply, &mut told) {
-        0 => Ok(String::from_utf8(reply[..told[0] as usize].to_vec()).unwrap()),
-        number => {
-            assert_eq!((told, reply), ([0], [b'.'; 1000]));
-            Err(number)
-        }
-    }
-}
-
-fn charge<H: Calls>(host: &mut H, process: u64, pages: u64) -> (u32, u64, u64) {
-    let mut told = [77; 2];
-    let number = host.charge(process, pages, &mut told);
-    (number, told[0], told[1])
-}
-
-fn fork<H: Calls>(host: &mut H, parent: u64, process: u64) -> (u32, u64, u64) {
-    let mut told = [77; 2];
-    let number = host.fork(parent, process, &mut told);
-    (number, told[0], told[1])
 }
 
 fn setting<H: Calls>(host: &mut H, group: u64, file: &str, line: &str) -> u32 {
@@ -117,10 +79,16 @@ fn p6_p7_rounding_and_the_top_figure<H: Calls>() {
 
 fn p8_weights<H: Calls>() {
     let mut host: H = one_group();
-    for (line, number) in [("1", 0), ("10000", 0), ("0", 34), ("10001", 34), ("1 2", 22)] {
+    for (line, number, after) in [
+        ("1", 0, "1\n"),
+        ("10000", 0, "10000\n"),
+        ("0", 34, "10000\n"),
+        ("10001", 34, "10000\n"),
+        ("1 2", 22, "10000\n"),
+    ] {
         assert_eq!(setting(&mut host, 1, "cpu.weight", line), number, "{line}");
+        assert_eq!(read(&host, 1, "cpu.weight"), Ok(after.into()), "{line}");
     }
-    assert_eq!(read(&host, 1, "cpu.weight"), Ok("10000\n".into()));
 }
 
 fn p9_the_last_word_counts<H: Calls>() {
@@ -132,7 +100,8 @@ fn p9_the_last_word_counts<H: Calls>() {
 ///     0
 ///     └ 1 (user 0)
 ///       ├ 2 C0 (user 1000)
-///       │ └ 4 C00 (user 1000)
+///       │ ├ 4 C00 (user 1000)
+///       │ └ 6 C01 (user 1000)
 ///       └ 3 C1 (user 1000)
 ///         └ 5 C10 (user 1000), process 9 of user 1000
 fn p10_the_common_ancestor<H: Calls>() {
@@ -144,6 +113,7 @@ fn p10_the_common_ancestor<H: Calls>() {
         assert_eq!(host.hand_over(0, group, 1000), 0);
         assert_eq!(host.make(1000, group, group + 2), 0);
     }
+    assert_eq!(host.make(1000, 2, 6), 0);
     assert_eq!(host.admit(9, 1000), 0);
     assert_eq!(host.write_procs(0, 5, b"9"), 0);
     assert_eq!(host.write_procs(1000, 4, b"9"), 13);

@@ -1,26 +1,11 @@
 //! Points at which a reader of document 01 may stumble, as rows: what is written, and the answer.
 //! Asked of the model and of the proved host.
 
-use shootspiral_check::model::Model;
-use shootspiral_check::{Calls, Linked};
+#[macro_use]
+mod common;
 
-/// A test of this name for the model, and one for the proved host.
-macro_rules! both {
-    ($($name:ident)*) => {
-        mod model {
-            $(#[test]
-            fn $name() {
-                super::$name::<super::Model>();
-            })*
-        }
-        mod linked {
-            $(#[test]
-            fn $name() {
-                super::$name::<super::Linked>();
-            })*
-        }
-    };
-}
+use common::shown;
+use shootspiral_check::Calls;
 
 both! {
     lines_for_procs
@@ -34,12 +19,6 @@ both! {
     empty_replies
     machine_sizes
     owners
-}
-
-fn shown<H: Calls>(host: &H, group: u64, file: &str) -> String {
-    let (mut reply, mut told) = ([b'.'; 1000], [0]);
-    assert_eq!(host.read(group, file.as_bytes(), &mut reply, &mut told), 0, "{group} {file}");
-    String::from_utf8(reply[..told[0] as usize].to_vec()).unwrap()
 }
 
 fn lines_for_procs<H: Calls>() {

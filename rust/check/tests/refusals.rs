@@ -1,0 +1,244 @@
+//! The evenings of `crates/model/specs/Refusals.antt`, run: for each call of document 01 the number
+//! of each refusal, and the earlier one where two checks fail; who may; lines that are malformed.
+//! Group 9 and process 9 are never live.
+
+#[macro_use]
+mod common;
+
+use common::rows::*;
+use shootspiral_check::Calls;
+
+both! {
+    making
+    deepening
+    removing
+    handing
+    moving
+    controlling
+    occupied
+    holding
+    setting_forms
+    limit_forms
+    births
+    charging
+    releasing
+    reading
+}
+
+fn making<H: Calls>() {
+    let mut evening = Evening::<H>::begun(0);
+    evening.get(22, [make(0, 64, 4), make(0, 64, 1), make(0, 9, 64), make(8, 1, 64)]);
+    evening.get(2, [make(0, 9, 1), make(0, 9, 9), make(8, 9, 4)]);
+    evening.get(17, [make(8, 1, 2), make(8, 0, 0), make(7, 1, 1)]);
+    evening.get(13, [make(8, 1, 4), make(7, 0, 4)]);
+    evening.succeed([make(0, 1, 63), make(7, 1, 4)]);
+    evening.get(13, [make(7, 63, 5)]);
+    evening.succeed([hand_over(0, 63, 8)]);
+    evening.get(13, [make(7, 63, 5), make(8, 1, 5)]);
+    evening.succeed([make(8, 63, 5), hand_over(0, 5, u32::MAX), make(u32::MAX, 5, 6)]);
+    evening.get(13, [7 + (1 << 16), 7 + (1 << 31), 1 << 16, 1 << 31].map(|user| make(user, 1, 7)));
+}
+
+fn deepening<H: Calls>() {
+    let mut evening = Evening::<H>::of(1);
+    evening.succeed([0, 1, 2, 3, 4, 5, 6, 7].map(|depth| make(0, depth, depth + 1)));
+    evening.get(22, [make(0, 8, 64)]);
+    evening.get(17, [make(0, 8, 1)]);
+    evening.get(13, [make(7, 8, 9)]);
+    evening.get(11, [make(0, 8, 9)]);
+    evening.succeed([admit(5, 7), procs(0, 8, "5")]);
+    evening.granted(charge(5, 1), 9);
+    evening.stopped(charge(5, 1), 12, 0, 9);
+    evening.granted(fork(5, 6), 9);
+    evening.belongs(6, "0::/1/2/3/4/5/6/7/8\n");
+}
+
+fn removing<H: Calls>() {
+    Evening::<H>::of(0).get(16, [remove(0, 0)]);
+    let mut evening = Evening::<H>::begun(0);
+    evening.succeed([procs(0, 2, "5")]);
+    evening.get(22, [remove(7, 64)]);
+    evening.get(2, [remove(7, 9)]);
+    evening.get(13, [remove(7, 1), remove(7, 0), remove(8, 2)]);
+    evening.get(16, [remove(0, 0), remove(0, 1), remove(7, 2)]);
+    evening.succeed([exit(5), remove(7, 2)]);
+    evening.get(2, [remove(7, 2)]);
+    evening.succeed([make(7, 3, 2), hand_over(0, 3, 0)]);
+    evening.get(13, [remove(7, 2)]);
+    evening.succeed([remove(0, 2), remove(7, 3), make(7, 1, 2), remove(0, 2), remove(0, 1)]);
+}
+
+fn handing<H: Calls>() {
+    let mut evening = Evening::<H>::begun(0);
+    evening.get(22, [hand_over(7, 0, 7), hand_over(7, 64, 7)]);
+    evening.get(2, [hand_over(7, 9, 7)]);
+    evening.get(13, [hand_over(7, 1, 8), hand_over(7, 2, 8), make(8, 1, 4)]);
+    evening.succeed([hand_over(0, 1, 7), hand_over(0, 1, 0)]);
+    evening.get(13, [make(7, 1, 4)]);
+}
+
+fn moving<H: Calls>() {
+    let mut evening = Evening::<H>::begun(0);
+    evening.succeed([control(0, 0, "+cpu"), control(7, 1, "+cpu")]);
+    evening.get(22, ["x", "257"].map(|line| procs(8, 64, line)));
+    evening.get(2, ["x", "257"].map(|line| procs(8, 9, line)));
+    evening.get(13, ["x", "0", "9", "257"].map(|line| procs(8, 2, line)));
+    evening.get(13, [procs(8, 2, padded(129, "5")), procs(7, 0, "5")]);
+    let malformed = ["", "x", "5 6", "+5", "-1", "5\t", "5\n\n", "5\r\n", "0", "000"];
+    evening.get(22, malformed.map(|line| procs(7, 2, line)));
+    evening.get(22, ["5:", "/5", ":", "\n5"].map(|line| procs(7, 2, line)));
+    let long = [padded(129, "9"), padded(129, "257"), padded(128, "5") + "\n"];
+    evening.get(22, long.map(|line| procs(7, 2, line)));
+    let strangers = ["9", "257", "4294967301", "18446744073709551621"];
+    evening.get(3, strangers.map(|line| procs(7, 2, line)));
+    evening.get(13, [procs(7, 2, "5")]);
+    evening.succeed([procs(0, 2, "5"), procs(0, 2, "6")]);
+    evening.get(13, [procs(7, 3, "6"), procs(7, 1, "6")]);
+    evening.get(16, [procs(7, 1, "5"), procs(0, 1, "5")]);
+    evening.succeed([procs(7, 3, " 5"), procs(7, 2, padded(128, "0005"))]);
+    evening.succeed([procs(7, 3, long_five())]);
+    evening.belongs(5, "0::/1/3\n");
+    evening.succeed([procs(0, 0, "5")]);
+}
+
+fn controlling<H: Calls>() {
+    let mut evening = Evening::<H>::begun(0);
+    evening.succeed([control(0, 0, "+cpu +memory"), hand_over(0, 3, 8)]);
+    evening.get(22, [control(8, 64, "x")]);
+    evening.get(2, [control(8, 9, "x")]);
+    evening.get(13, [control(8, 1, "x"), control(8, 1, "+pids"), control(8, 1, padded(129, ""))]);
+    evening.get(13, [control(7, 3, ""), control(7, 0, "")]);
+    let malformed = ["+pids x", "+cpu x", "+", "-", "cpu", "*cpu", "++cpu", "+cpu+memory", "+CPU"];
+    evening.get(22, malformed.map(|line| control(7, 1, line)));
+    let malformed = ["-disk", "+cpu\t+memory", "+cpu,+memory", "\n+cpu", "\n\n", "+cpu\0"];
+    evening.get(22, malformed.map(|line| control(7, 1, line)));
+    let long = [padded(129, ""), padded(129, "+pids"), padded(128, "") + "\n"];
+    evening.get(22, long.map(|line| control(7, 1, line)));
+    evening.succeed([padded(128, ""), padded(127, "") + "\n"].map(|line| control(7, 1, line)));
+    evening.succeed(["", "\n", "-pids", "+pids -pids"].map(|line| control(7, 1, line)));
+    evening.get(2, [control(7, 1, "-pids +pids"), control(7, 2, "+cpu"), control(7, 2, "+memory")]);
+    evening.reads(1, "cgroup.subtree_control", "");
+    evening.succeed([control(7, 1, "  +memory  +cpu\n")]);
+    evening.get(2, [control(7, 1, "-memory +pids")]);
+    evening.reads(1, "cgroup.subtree_control", "cpu memory\n");
+    evening.succeed([control(0, 1, "-cpu")]);
+}
+
+fn occupied<H: Calls>() {
+    let mut evening = Evening::<H>::begun(0);
+    evening.succeed([control(0, 0, "+cpu +memory"), control(7, 1, "+cpu"), control(7, 2, "+cpu")]);
+    evening.succeed([procs(0, 3, "5")]);
+    evening.get(2, [control(7, 1, "-cpu +pids"), control(7, 3, "+cpu +pids")]);
+    evening.get(16, [control(7, 1, "-cpu"), control(7, 3, "+cpu")]);
+    evening.succeed(["", "-cpu", "+cpu -cpu"].map(|line| control(7, 3, line)));
+    evening.succeed([control(7, 1, "+memory"), control(0, 0, "+pids")]);
+}
+
+fn holding<H: Calls>() {
+    let mut evening = Evening::<H>::begun(0);
+    evening.succeed([0, 1, 2].map(|group| control(0, group, ALL)));
+    evening.succeed([procs(0, 3, "5")]);
+    evening.get(13, [control(8, 1, "-cpu"), control(8, 3, "+cpu")]);
+    evening.get(22, [control(7, 1, "-cpu x"), control(7, 1, padded(129, "-cpu"))]);
+    evening.get(22, [control(7, 3, "+cpu x"), control(7, 3, padded(129, "+cpu"))]);
+    evening.get(16, ["-cpu", "-memory", "-pids"].map(|line| control(7, 1, line)));
+    evening.get(16, ["+cpu", "+memory", "+pids"].map(|line| control(7, 3, line)));
+    evening.succeed([control(7, 2, "-cpu -pids")]);
+    evening.get(16, [procs(7, 2, "5")]);
+    evening.succeed([control(7, 1, "-cpu"), control(7, 2, "-memory +pids")]);
+    evening.get(16, [procs(7, 2, "5")]);
+    evening.succeed([control(7, 2, "-pids"), procs(7, 2, "5")]);
+}
+
+fn setting_forms<H: Calls>() {
+    let mut evening = Evening::<H>::begun(0);
+    evening.succeed([control(0, 0, "+cpu +memory"), control(7, 1, "+cpu"), hand_over(0, 2, 8)]);
+    evening.succeed([make(8, 2, 4), control(8, 2, "+cpu")]);
+    evening.get(22, [setting(8, 64, "cpu", "x")]);
+    evening.get(2, [setting(8, 9, "cpu.max", "x"), setting(8, 2, "memory.max", "x")]);
+    evening.get(2, [setting(0, 0, "cpu.weight", "100")]);
+    let files = ["cpu", "memory.current", "cpu.maxx", "cpu.max\n", "CPU.MAX", ""];
+    evening.get(2, files.map(|file| setting(8, 1, file, "x")));
+    evening.get(13, ["x", "5"].map(|line| setting(8, 2, "cpu.max", line)));
+    evening.get(13, [setting(8, 2, "cpu.max", padded(129, "max"))]);
+    evening.get(13, [setting(7, 1, "memory.max", "max"), setting(7, 4, "cpu.weight", "1")]);
+    evening.succeed([7, 0].map(|user| setting(user, 2, "cpu.weight", "1")));
+    let malformed = ["", "5 x", "x 5", "5 max", "5 5 5", "Max", "maxx", "ma", "0x10", "1e3"];
+    evening.get(22, malformed.map(|line| setting(7, 2, "cpu.max", line)));
+    let malformed = ["", "max", "0 0", "0 0 0", "+5", "5\t", "5\n\n"];
+    evening.get(22, malformed.map(|line| setting(7, 2, "cpu.weight", line)));
+    evening.get(22, [setting(7, 2, "cpu.max", padded(129, "5"))]);
+    let outside = ["5 5", "999", "1000000001", "1000 999", "max 1000001"];
+    evening.get(34, outside.map(|line| setting(7, 2, "cpu.max", line)));
+}
+
+fn limit_forms<H: Calls>() {
+    let mut evening = Evening::<H>::of(0);
+    evening.succeed([make(0, 0, 1), control(0, 0, "+memory +pids")]);
+    let malformed = ["", "x", "1 2", "1 2 3", "max max", "5:", "/5", "+5", "4K"];
+    evening.get(22, malformed.map(|line| setting(0, 1, "memory.max", line)));
+    let malformed = ["", "x", "1 2", "1 2 3", "max max", "5:", "/5", "-1"];
+    evening.get(22, malformed.map(|line| setting(0, 1, "pids.max", line)));
+    evening.succeed(["memory.max", "pids.max"].map(|file| setting(0, 1, file, "max")));
+}
+
+fn births<H: Calls>() {
+    let mut evening = Evening::<H>::begun(0);
+    evening.get(22, [admit(0, 7), admit(257, 7)]);
+    evening.get(17, [admit(5, 8)]);
+    evening.succeed([admit(256, 0)]);
+    evening.belongs(256, "0::/\n");
+    evening.granted(fork(5, 4), 1);
+    evening.succeed([control(0, 0, "+pids"), setting(0, 1, "pids.max", "0"), procs(0, 2, "5")]);
+    evening.get(3, [fork(0, 257), fork(257, 0), fork(9, 0), fork(9, 5)]);
+    evening.get(22, [fork(5, 0), fork(5, 257)]);
+    evening.get(17, [fork(5, 5), fork(5, 6)]);
+    evening.stopped(fork(5, 7), 11, 1, 2);
+    evening.succeed([setting(0, 1, "pids.max", "2")]);
+    evening.granted(fork(5, 7), 3);
+    evening.stopped(fork(5, 8), 11, 1, 2);
+    evening.succeed([procs(7, 3, "7")]);
+    evening.belongs(7, "0::/1/3\n");
+    evening.get(3, [exit(0), exit(9), exit(257)]);
+    evening.succeed([exit(7)]);
+    evening.get(3, [exit(7)]);
+    evening.succeed([admit(7, 0)]);
+}
+
+fn charging<H: Calls>() {
+    let mut evening = Evening::<H>::begun(0);
+    evening.get(3, [charge(0, 0), charge(257, 0), charge(9, 1048577)]);
+    evening.get(22, [charge(5, 0), charge(5, 1048577)]);
+    evening.stopped(charge(5, 1), 12, 0, 1);
+}
+
+fn releasing<H: Calls>() {
+    let mut evening = Evening::<H>::begun(1048576);
+    evening.succeed([control(0, 0, "+memory"), procs(0, 2, "5"), setting(0, 1, "memory.max", "0")]);
+    evening.stopped(charge(5, 1), 12, 1, 2);
+    evening.succeed([setting(0, 1, "memory.max", "max")]);
+    evening.granted(charge(5, 1048576), 3);
+    evening.stopped(charge(5, 1), 12, 0, 3);
+    evening.stopped(charge(6, 1), 12, 0, 1);
+    evening.get(22, [release(64, 1), release(9, 0), release(9, 1048577), release(1, 1048577)]);
+    evening.get(2, [release(9, 1)]);
+    evening.get(34, [release(1, 1)]);
+    evening.succeed([release(2, 1048576)]);
+    evening.get(34, [release(2, 1)]);
+}
+
+fn reading<H: Calls>() {
+    let mut evening = Evening::<H>::of(0);
+    evening.succeed([make(0, 0, 1), admit(200, 0), admit(3, 0), admit(12, 0)]);
+    evening.unread(64, "cgroup", 22);
+    evening.unread(64, "cgroup.events", 22);
+    evening.unread(9, "cgroup.events", 2);
+    evening.unread(0, "cgroup.events", 2);
+    evening.unread(1, "cpu.max", 2);
+    evening.unread(0, "cgroup.procs", 28);
+    evening.absent(1, ["cgroup", "cgroup.procsx", "cgroup.procs\n", "CGROUP.PROCS", ""]);
+    evening.unknown(0, 3);
+    evening.unknown(9, 3);
+    evening.unknown(257, 3);
+    evening.unknown(12, 28);
+}
