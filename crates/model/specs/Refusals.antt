@@ -50,8 +50,8 @@ making =
     ++ allGet 13 (make 7 63 5 ∷ [])
     ++ allSucceed (handOver 0 63 8 ∷ [])
     ++ allGet 13 (make 7 63 5 ∷ make 8 1 5 ∷ [])
-    ++ allSucceed (make 8 63 5 ∷ handOver 0 5 4294967295 ∷ make 4294967295 5 6 ∷ [])
-    ++ allGet 13 (map (λ user. make user 1 7) (65543 ∷ 2147483655 ∷ 65536 ∷ 2147483648 ∷ [])))
+    ++ allSucceed (make 8 63 5 ∷ handOver 0 5 4294967295 ∷ make 4294967295 5 6 ∷ make 4294967295 6 7 ∷ [])
+    ++ allGet 13 (map (λ user. make user 1 8) (65543 ∷ 2147483655 ∷ 65536 ∷ 2147483648 ∷ [])))
 
 -- "Make under depth 7 passes, under depth 8 is 11", and 22, 17 and 13 before 11. From depth 8 nine groups are consulted, and the
 -- root's refusal counts as many as success. "Pages are counted everywhere", here with memory on nowhere.
@@ -139,7 +139,7 @@ controlling =
     ++ allGet 2 (control 7 1 "-pids +pids" ∷ control 7 2 "+cpu" ∷ control 7 2 "+memory" ∷ [])
     ++ reads 1 "cgroup.subtree_control" "" ∷ succeeds (control 7 1 "  +memory  +cpu\n") ∷ []
     ++ refuses (control 7 1 "-memory +pids") 2 ∷ reads 1 "cgroup.subtree_control" "cpu memory\n" ∷ []
-    ++ allSucceed (control 0 1 "-cpu" ∷ []))
+    ++ succeeds (control 0 1 "-memory -cpu +cpu -cpu +memory") ∷ reads 1 "cgroup.subtree_control" "memory\n" ∷ [])
 
 -- 2 before either 16. Only a process in the group itself bars, and only what joins; in the root it bars nothing.
 abbrev pub occupied : Evening

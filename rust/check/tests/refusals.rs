@@ -35,8 +35,9 @@ fn making<H: Calls>() {
     evening.get(13, [make(7, 63, 5)]);
     evening.succeed([hand_over(0, 63, 8)]);
     evening.get(13, [make(7, 63, 5), make(8, 1, 5)]);
-    evening.succeed([make(8, 63, 5), hand_over(0, 5, u32::MAX), make(u32::MAX, 5, 6)]);
-    evening.get(13, [7 + (1 << 16), 7 + (1 << 31), 1 << 16, 1 << 31].map(|user| make(user, 1, 7)));
+    evening.succeed([make(8, 63, 5), hand_over(0, 5, u32::MAX)]);
+    evening.succeed([make(u32::MAX, 5, 6), make(u32::MAX, 6, 7)]);
+    evening.get(13, [7 + (1 << 16), 7 + (1 << 31), 1 << 16, 1 << 31].map(|user| make(user, 1, 8)));
 }
 
 fn deepening<H: Calls>() {
@@ -121,7 +122,8 @@ fn controlling<H: Calls>() {
     evening.succeed([control(7, 1, "  +memory  +cpu\n")]);
     evening.get(2, [control(7, 1, "-memory +pids")]);
     evening.reads(1, "cgroup.subtree_control", "cpu memory\n");
-    evening.succeed([control(0, 1, "-cpu")]);
+    evening.succeed([control(0, 1, "-memory -cpu +cpu -cpu +memory")]);
+    evening.reads(1, "cgroup.subtree_control", "memory\n");
 }
 
 fn occupied<H: Calls>() {
