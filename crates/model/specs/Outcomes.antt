@@ -243,14 +243,16 @@ showing =
     ++ reads 1 "memory.current" "4096\n" ∷ reads 1 "pids.current" "2\n" ∷ reads 1 "cpu.weight" "100\n" ∷ []
     ++ reads 1 "cpu.max" "max 100000\n" ∷ reads 1 "memory.max" "max\n" ∷ reads 1 "pids.max" "max\n" ∷ [])
 
--- Each file in a group where memory alone is on, and below it, where nothing is. cgroup.procs shows "processes of G itself"; the
--- other counts take in all inside. A group that has pages and no process is not populated.
+-- Each file in a group where memory alone is on, and below it, where nothing is; above it cgroup.controllers lists what is in the
+-- set and what is not. cgroup.procs shows "processes of G itself"; the other counts take in all inside. A group that has pages and
+-- no process is not populated.
 abbrev pub showingBelow : Evening
 showingBelow =
     evening 8
     (standing
     ++ allSucceed (control 0 0 allThree ∷ control 0 1 "+memory" ∷ [])
     ++ reads 1 "cgroup.procs" "" ∷ reads 1 "cgroup.subtree_control" "memory\n" ∷ reads 1 "pids.current" "2\n" ∷ []
+    ++ readsIn (0 ∷ 1 ∷ []) "cgroup.controllers" "cpu memory pids\n"
     ++ reads 2 "cgroup.procs" "5\n6\n" ∷ reads 2 "cgroup.controllers" "memory\n" ∷ reads 2 "cgroup.subtree_control" "" ∷ []
     ++ reads 2 "cgroup.events" "populated 1\n" ∷ reads 2 "memory.current" "4096\n" ∷ reads 2 "memory.max" "max\n" ∷ []
     ++ absent 2 ("pids.current" ∷ "cpu.weight" ∷ "cpu.max" ∷ "pids.max" ∷ []) ++ absent 3 resourceFiles

@@ -332,6 +332,8 @@ fn showing_below<H: Calls>() {
     evening.reads(1, "cgroup.procs", "");
     evening.reads(1, "cgroup.subtree_control", "memory\n");
     evening.reads(1, "pids.current", "2\n");
+    evening.reads(0, "cgroup.controllers", "cpu memory pids\n");
+    evening.reads(1, "cgroup.controllers", "cpu memory pids\n");
     evening.reads(2, "cgroup.procs", "5\n6\n");
     evening.reads(2, "cgroup.controllers", "memory\n");
     evening.reads(2, "cgroup.subtree_control", "");
