@@ -8,7 +8,7 @@ use mathlib.Core.Option.{Option, none, some}
 use mathlib.Core.Path.{_≡_, refl, ap, sym, _∙_}
 use lib.Dec.{leb}
 use borrow.Author.Tests.{leb-true}
-use Rattle.model.specs.Functions.{known, passes}
+use Rattle.model.specs.Functions.{known, passes, All}
 use Rattle.model.specs.Checks.{Check, need, first, done, lacking, met}
 use Rattle.model.specs.Calls.{settingValue, lineValue}
 use Rattle.model.specs.Names.{settingNamed}
@@ -102,13 +102,13 @@ module _ (xs : List ℕ) (g : ℕ) (value : Reading) (k : Settable xs g value) w
 
   -- the quota that stands there
   pub storable-kept : (q : Limit) → q ≡ view xs .group g .cpu .quota → Storable q
-  unfolding inRange shown
+  unfolding inRange shown All
   storable-kept q e =
       let c : CpuSettings = view xs .group g .cpu in
       rw e
       (storable-in 1000 1000000000 (c .quota) (omega arith)
       (and-left (figureIn 1000 1000000000 (c .quota)) (periodIn (some (c .period)))
-      (k .at .kept .formed .ranges .within CpuMax g (k .at .live))))
+      (k .at .kept .formed .ranges .within g (k .at .live) .values CpuMax .0)))
 
   pub storable-quota : (q : Limit) → value ≡ Reading.Quota q → Storable q
   unfolding inRange

@@ -1,25 +1,29 @@
 -- Laws of specs/Control.antt: no controller passes a test, and a set after what is asked of it. Assumes nothing.
 use mathlib.Core.Bool.{Bool, true, false, _&&_}
-use mathlib.Core.List.{List, _∷_}
+use mathlib.Core.List.{List, [], _∷_}
 use mathlib.Core.Path.{_≡_, refl}
+use Rattle.model.specs.Functions.{All}
+use Rattle.model.specs.Names.{controllers}
 use Rattle.model.specs.Control.{Ask, keep, enable, disable, setAfter, isDropped, joins, leaves, anyIn, anyController}
 use Rattle.model.specs.declared.Controller.{Controller}
 use Rattle.model.specs.declared.Controller.the-variants.{Cpu, Memory, Pids}
 use Rattle.model.proofs.FunctionLaws.{split, clash}
 
-any-head : (f : Controller → Bool) (c : Controller) (cs : List Controller) → anyIn f (c ∷ cs) ≡ false → f c ≡ false
-unfolding anyIn
-any-head f c cs h = split (f c) (λ y. clash (anyIn f (c ∷ cs)) (rw (y, anyIn)) h) (λ n. n)
-
-any-tail : (f : Controller → Bool) (c : Controller) (cs : List Controller) → anyIn f (c ∷ cs) ≡ false → anyIn f cs ≡ false
-unfolding anyIn
-any-tail f c cs h = rw (any-head f c cs h, anyIn) at h
-
 -- every controller is listed
+pub of-controllers : (P : Controller → Type 0) → All P controllers → (c : Controller) → P c
+unfolding All
+of-controllers P h Cpu = h .0
+of-controllers P h Memory = h .1 .0
+of-controllers P h Pids = h .1 .1 .0
+
+any-in-none : (f : Controller → Bool) (cs : List Controller) → anyIn f cs ≡ false → All (λ c. f c ≡ false) cs
+unfolding anyIn All
+any-in-none f [] h = tt
+any-in-none f (c ∷ cs) h =
+    split (f c) (λ y. clash (anyIn f (c ∷ cs)) (rw (y, anyIn)) h) (λ n. (n, any-in-none f cs (rw (n, anyIn) at h)))
+
 pub any-controller-none : (f : Controller → Bool) → anyController f ≡ false → (c : Controller) → f c ≡ false
-any-controller-none f h Cpu = any-head f Cpu _ h
-any-controller-none f h Memory = any-head f Memory _ (any-tail f Cpu _ h)
-any-controller-none f h Pids = any-head f Pids _ (any-tail f Memory _ (any-tail f Cpu _ h))
+any-controller-none f h = of-controllers (λ c. f c ≡ false) (any-in-none f controllers h)
 
 -- what is in the set after a line was there before, or is enabled by it
 pub set-after-true : {A : Type 0} (b : Bool) (a : Ask) → setAfter b a ≡ true → (b ≡ true → A) → (a ≡ enable → A) → A

@@ -17,7 +17,8 @@ use Rattle.model.specs.declared.Controller.{Controller}
 use Rattle.model.proofs.FunctionLaws.{split, whether, clash, and-left, and-right, upd-same, upd-other, upd-map, upd-keeps}
 use Rattle.model.proofs.AmountLaws.{amount-same}
 use Rattle.model.proofs.RuleLaws.{sound-eq, placed-eq, top-down-eq, defaults-eq, ranges-eq, quiet-eq, top-down-after-control, quiet-after-set, on-other}
-use Rattle.model.proofs.SettingLaws.{default-of-reset, default-after-reset, range-after-reset}
+use Rattle.model.proofs.PartLaws.{default-of-reset, default-after-reset}
+use Rattle.model.proofs.AllowedLaws.{allowed-after-reset}
 
 -- A live child is live, is not the root, and has g for its parent.
 module _ (g k : ℕ) (c : Core) where
@@ -130,10 +131,10 @@ module _ (t : Tree) (g : ℕ) (set gone : Controls) where
           ranges =
               ranges-eq live-after-control refl
               (record {
-                within = λ s k l.
+                within = λ k l.
                     split (childOf g k (cores t k))
-                    (λ y. rw (setting-after-control k y) (range-after-reset gone (settingsAt t k) (λ s. w .ranges .within s k l) s))
-                    (λ n. rw (setting-after-control-other k n) (w .ranges .within s k l));
+                    (λ y. rw (setting-after-control k y) (allowed-after-reset gone (settingsAt t k) (w .ranges .within k l)))
+                    (λ n. rw (setting-after-control-other k n) (w .ranges .within k l));
               });
           quiet = quiet-eq refl set-after-control (quiet-after-set g set (w .quiet) (q .quiet));
           blank =

@@ -12,7 +12,10 @@ pub mod TextLaws
 pub mod WordLaws
 pub mod DecimalLaws
 pub mod NameLaws
+pub mod FigureLaws
 pub mod SettingLaws
+pub mod PartLaws
+pub mod AllowedLaws
 pub mod SettingTextLaws
 pub mod Preservation
 pub mod ControlPreservation

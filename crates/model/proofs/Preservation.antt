@@ -8,11 +8,10 @@ use Rattle.model.specs.Functions.{upd}
 use Rattle.model.specs.Sizes.{groups, processes, deepest}
 use Rattle.model.specs.Tree.{Tree, Group, Process, nowhere, at, settingsOf, noCore, noControls, noGroup, noProcess, newGroup, atGroup, atProcess, cores, lives, parents, depths, owners, sets, settingsAt, places}
 use Rattle.model.specs.Hierarchy.{onIn, usage}
-use Rattle.model.specs.Settings.{shown, inRange, AtDefault}
+use Rattle.model.specs.Settings.{AtDefault, Allowed}
 use Rattle.model.specs.WellFormed.{WellFormed}
 use Rattle.model.specs.Effects.{charged, removed}
 use Rattle.model.specs.declared.Controller.{Controller}
-use Rattle.model.specs.declared.Setting.{Setting}
 use Rattle.model.specs.declared.Resource.the-variants.{Pages}
 use Rattle.model.proofs.FunctionLaws.{whether, clash, upd-same, upd-other, upd-map, upd-keeps, upd-all}
 use Rattle.model.proofs.AmountLaws.{amount-after-make, amount-after-remove}
@@ -27,7 +26,7 @@ pub record Patch (t : Tree) (g : ℕ) (v : Group) : Type 0 where
   pub set : v .set ≡ sets t g
   pub owner : g ≡ 0 → v .owner ≡ 0
   pub defaults : (c : Controller) → onIn (parents t) (sets t) c g ≡ false → AtDefault c (settingsOf v)
-  pub ranges : (s : Setting) → inRange (shown s (settingsOf v)) ≡ true
+  pub ranges : Allowed (settingsOf v)
   pub fits : usage (upd (cores t) g (v .core)) 0 ≤ t .machine
 
 pub cores-after-remove : (t : Tree) (g : ℕ)
@@ -121,7 +120,7 @@ module _ (t : Tree) (w : WellFormed t) where
     not-new x l e = clash (lives t x) l (rw e ln)
 
     pub well-formed-after-make : new < groups → depths t p < deepest
-        → ((c : Controller) → AtDefault c (settingsOf made)) → ((s : Setting) → inRange (shown s (settingsOf made)) ≡ true)
+        → ((c : Controller) → AtDefault c (settingsOf made)) → Allowed (settingsOf made)
         → WellFormed (atGroup t new made)
     well-formed-after-make r d at-default in-range =
         record {
@@ -143,7 +142,7 @@ module _ (t : Tree) (w : WellFormed t) where
               ranges-eq (part-made (λ x. x .core .live)) (part-made settingsOf)
               (ranges-live (ranges-after-put new (settingsOf made) (w .ranges) in-range)
               (λ g l. whether g new
-              (λ e. inr (λ s. rw (e, upd-same) (in-range s)))
+              (λ e. inr (rw (e, upd-same) in-range))
               (λ ne. inl (rw (upd-other (lives t) new true g ne) at l))));
           quiet = quiet-eq refl (part-made (λ x. x .set)) (quiet-after-set new noControls (w .quiet) (λ _ _ _ _. refl));
           blank =
@@ -190,9 +189,9 @@ module _ (t : Tree) (w : WellFormed t) where
           ranges =
               ranges-eq (part-after-remove t g (λ x. x .core .live) refl) (part-after-remove t g settingsOf refl)
               (record {
-                within = λ s h l.
+                within = λ h l.
                     let ne : h ≢ g = gone h l in
-                    rw (upd-other (settingsAt t) g (settingsOf noGroup) h ne) (w .ranges .within s h (rw (upd-other (lives t) g false h ne) at l));
+                    rw (upd-other (settingsAt t) g (settingsOf noGroup) h ne) (w .ranges .within h (rw (upd-other (lives t) g false h ne) at l));
               });
           quiet = quiet-eq refl (part-after-remove t g (λ x. x .set) refl) (quiet-after-set g noControls (w .quiet) (λ _ _ _ _. refl));
           blank =

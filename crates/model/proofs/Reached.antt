@@ -11,7 +11,8 @@ use Rattle.model.specs.WellFormed.{WellFormed}
 use Rattle.model.specs.Demands.{Reachable}
 use Rattle.model.proofs.FunctionLaws.{whether, clash, upd-same, upd-other, upd-map, upd-all}
 use Rattle.model.proofs.AmountLaws.{usage-fresh}
-use Rattle.model.proofs.SettingLaws.{default-new, range-new}
+use Rattle.model.proofs.PartLaws.{default-new}
+use Rattle.model.proofs.AllowedLaws.{allowed-new}
 use Rattle.model.proofs.Steps.{well-formed-run}
 use Rattle.model.proofs.Books.{run-more}
 
@@ -47,7 +48,7 @@ module _ (m : ℕ) where
             };
         topDown = record { within = λ c g l nz h. absurd (nz (only-root g l)) };
         defaults = record { off = λ c g l o. rw (only-root g l, root-new) (default-new c) };
-        ranges = record { within = λ s g l. rw (only-root g l, root-new) (range-new s) };
+        ranges = record { within = λ g l. rw (only-root g l, root-new) allowed-new };
         quiet = record { empty = λ p g e nz c. let z : _≡_ {A = ℕ} 0 1 = cc in absurd (omega arith) };
         blank =
             record {

@@ -33,7 +33,8 @@ use Rattle.model.proofs.CheckLaws.{first-pass}
 use Rattle.model.proofs.ChainLaws.{root-inside}
 use Rattle.model.proofs.AmountLaws.{place-live, place-free, usage-same, usage-after-charge, usage-after-release}
 use Rattle.model.proofs.ControlLaws.{any-controller-none, set-after-true, join-none, leave-true}
-use Rattle.model.proofs.SettingLaws.{default-new, range-new, default-after-put, range-after-put}
+use Rattle.model.proofs.PartLaws.{default-new, default-after-put}
+use Rattle.model.proofs.AllowedLaws.{allowed-new, allowed-after-put}
 use Rattle.model.proofs.RoomLaws.{room-on-chain, over-figure, machine-acts}
 use Rattle.model.proofs.RuleLaws.{NoChild}
 use Rattle.model.proofs.Preservation.{Patch, well-formed-after-patch, well-formed-after-place, well-formed-after-make, well-formed-after-remove}
@@ -96,7 +97,7 @@ module _ (t : Tree) (w : WellFormed t) where
         set = d;
         owner = o;
         defaults = λ x h. rw e (w .defaults .off x g l h);
-        ranges = λ s. rw e (w .ranges .within s g l);
+        ranges = rw e (w .ranges .within g l);
         fits = f;
       }
 
@@ -128,7 +129,7 @@ module _ (t : Tree) (w : WellFormed t) where
         owner = root-owner g;
         defaults =
             λ c h. default-after-put s ws v c (settingsAt t g) e (controller-apart s c g o h) (w .defaults .off c g l h);
-        ranges = λ x. range-after-put v (settingsAt t g) r (λ y. w .ranges .within y g l) x;
+        ranges = allowed-after-put v (settingsAt t g) r (w .ranges .within g l);
         fits = same-pages g _ refl refl;
       })
 
@@ -204,7 +205,7 @@ module _ (t : Tree) (w : WellFormed t) where
 pub well-formed-effect : (t : Tree) (c : Call) → WellFormed t → Pass (checks (factsOf t) c) → WellFormed (effect t c)
 unfolding effect checks Pass chargeChecks forkChecks
 well-formed-effect t (make user parent new) w k =
-    well-formed-after-make t w parent new user (search) (search) (omega (arith, leb-false)) (omega (arith, leb-false)) default-new range-new
+    well-formed-after-make t w parent new user (search) (search) (omega (arith, leb-false)) (omega (arith, leb-false)) default-new allowed-new
 well-formed-effect t (remove user g) w k =
     well-formed-after-remove t w g (search) (eqb-false g 0 (search)) (no-child t w g (search)) (no-process t w g (search))
 well-formed-effect t (handOver user g owner) w k =

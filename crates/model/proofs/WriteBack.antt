@@ -1,76 +1,122 @@
--- What a settings file shows can be written back by whoever may write it, and changes nothing: it reads as the value shown,
+-- Every line that a settings file shows can be written back by whoever may write it, and changes nothing: it reads as the value shown,
 -- which a well-formed tree has in range, and which is put where it stands. Assumes nothing.
-use Prim.Native.Nat.{ℕ}
+use Prim.Native.Nat.{ℕ, _≤_, _<_}
+use native.Mathlib.Omega.{arith}
 use mathlib.Core.Bool.{true, false}
-use mathlib.Core.List.{List}
+use mathlib.Core.List.{List, [], _∷_, map, append-nil}
 use mathlib.Core.Option.{some}
-use mathlib.Core.Path.{_≡_, ap, _∙_}
-use lib.ListN.{length}
+use mathlib.Core.Path.{_≡_, ap, sym, _∙_}
+use lib.ListN.{length, length-append}
 use borrow.Author.Tests.{lt-leb, le-ltb}
-use Rattle.model.specs.Functions.{known, passes}
+use Rattle.model.specs.Functions.{known, passes, All}
 use Rattle.model.specs.Sizes.{groups, longestLine}
 use Rattle.model.specs.Checks.{Pass}
-use Rattle.model.specs.Tree.{Tree, Group, lives, parents, settingsAt}
+use Rattle.model.specs.Tree.{Tree, Group, Settings, lives, parents, settingsAt}
 use Rattle.model.specs.Hierarchy.{on, factsOf}
-use Rattle.model.specs.Text.{tooLong}
+use Rattle.model.specs.Text.{ended, joined, linesOf, body, words, lineWords, tooLong}
 use Rattle.model.specs.Names.{settingName, settingNamed}
-use Rattle.model.specs.Settings.{settingController, shown, inRange}
+use Rattle.model.specs.Settings.{settingController, SettingValue, Allowed, inRange, put, shown, valueText}
 use Rattle.model.specs.Rules.{noGroupNumber, mayWrite}
 use Rattle.model.specs.Files.{contents}
-use Rattle.model.specs.Calls.{checks, lineValue, verdict}
-use Rattle.model.specs.Effects.{effect, step}
+use Rattle.model.specs.Calls.{writeSetting, checks, lineValue, verdict}
+use Rattle.model.specs.Effects.{effect}
 use Rattle.model.specs.WellFormed.{WellFormed}
-use Rattle.model.specs.Demands.{writtenBack, WriteBack}
+use Rattle.model.specs.Demands.{shownBy, WrittenBack, WriteBack}
 use Rattle.model.specs.declared.Setting.{Setting}
+use Rattle.model.specs.declared.Setting.the-variants.{CpuWeight, CpuMax, Max}
 use Rattle.model.specs.declared.File.the-variants.{Value}
 use Rattle.model.specs.declared.Answer.the-variants.{Done}
 use Rattle.model.proofs.FileReads.{file-read}
-use Rattle.model.proofs.FunctionLaws.{upd-id}
+use Rattle.model.proofs.FunctionLaws.{upd-id, all-of, all-map, all-both, all-images}
 use Rattle.model.proofs.CheckLaws.{pass-first}
 use Rattle.model.proofs.NameLaws.{settingNamed-settingName}
+use Rattle.model.proofs.TextLaws.{Unbroken, lines-of-each, joined-lines, body-ended, body-unbroken}
 use Rattle.model.proofs.SettingLaws.{put-shown}
-use Rattle.model.proofs.SettingTextLaws.{valueOf-shown, length-line}
+use Rattle.model.proofs.SettingTextLaws.{ReadsBack, shown-reads-back, unbroken-value, shown-short}
 use Rattle.model.proofs.Steps.{step-accepted}
 
+-- what is known of a value that is shown
+record Shown (s : Setting) (st : Settings) (v : SettingValue) : Type 0 where
+  reads : ReadsBack s v
+  ranged : inRange v ≡ true
+  short : length (valueText v) < longestLine
+  stands : put v st ≡ st
+
+all-shown : (s : Setting) (st : Settings) → Allowed st → All (Shown s st) (shown s st)
+all-shown s st h =
+    all-both _ _ (Shown s st) (shown s st) (λ v x y. record { reads = x .0; ranged = x .1; short = y .0; stands = y .1 })
+    (all-both _ _ (λ v. ReadsBack s v × (inRange v ≡ true)) (shown s st) (λ v x y. (x, y)) (shown-reads-back s st) (h .values s))
+    (all-both _ _ (λ v. (length (valueText v) < longestLine) × (put v st ≡ st)) (shown s st) (λ v x y. (x, y))
+    (shown-short s st (h .values s)) (put-shown s st))
+
+-- a line of which that is the value
 module _ (t : Tree) (well : WellFormed t) (user g : ℕ) (s : Setting) (live : lives t g ≡ true)
-    (present : on t (settingController s) g ≡ true) (may : mayWrite t user (parents t g) ≡ true) where
-  abbrev line : List ℕ
-  line = contents (factsOf t) g (Value s)
-
-  value-back : lineValue (settingName s) line ≡ some (shown s (settingsAt t g))
-  unfolding contents
-  value-back = rw settingNamed-settingName (valueOf-shown s (settingsAt t g))
-
-  ranged : inRange (shown s (settingsAt t g)) ≡ true
-  ranged = well .ranges .within s g live
+    (present : on t (settingController s) g ≡ true) (may : mayWrite t user (parents t g) ≡ true)
+    (v : SettingValue) (line : List ℕ) (k : Shown s (settingsAt t g) v) (same : lineWords line ≡ words (valueText v))
+    (short : length line ≤ longestLine) where
+  value-back : lineValue (settingName s) line ≡ some v
+  value-back = rw (settingNamed-settingName, same) (k .reads)
 
   present-back : passes (settingNamed (settingName s)) (λ x. on t (settingController x) g) ≡ true
   present-back = rw settingNamed-settingName present
 
-  short-back : tooLong line ≡ false
-  unfolding contents
-  short-back = le-ltb longestLine (length line) (length-line (shown s (settingsAt t g)) ranged)
-
-  accepted-back : verdict t (writtenBack t user g s) ≡ Done
+  accepted-back : verdict t (writeSetting user g (settingName s) line) ≡ Done
   unfolding verdict checks Pass
   accepted-back =
       let number : noGroupNumber g ≡ false = lt-leb groups g (well .sound .range g live) in
       let name : known (settingNamed (settingName s)) ≡ true = rw settingNamed-settingName in
+      let size : tooLong line ≡ false = le-ltb longestLine (length line) short in
       let form : known (lineValue (settingName s) line) ≡ true = rw value-back in
-      let range : passes (lineValue (settingName s) line) inRange ≡ true = rw value-back ranged in
-      pass-first (checks (factsOf t) (writtenBack t user g s)) (search (present-back, short-back) depth 12)
+      let range : passes (lineValue (settingName s) line) inRange ≡ true = rw value-back (k .ranged) in
+      pass-first (checks (factsOf t) (writeSetting user g (settingName s) line)) (search present-back depth 12)
 
-  same-back : step t (writtenBack t user g s) ≡ t
+  written-back : WrittenBack t user g s line
   unfolding effect
-  same-back =
-      step-accepted t (writtenBack t user g s) accepted-back
-      ∙ rw (value-back, put-shown)
-      (ap (λ (f : ℕ → Group). record { machine = t .machine; group = f; process = t .process }) (upd-id (t .group) g))
+  written-back =
+      record {
+        accepted = accepted-back;
+        same =
+            step-accepted t (writeSetting user g (settingName s) line) accepted-back
+            ∙ rw (value-back, k .stands)
+            (ap (λ (f : ℕ → Group). record { machine = t .machine; group = f; process = t .process }) (upd-id (t .group) g));
+      }
+
+-- The lines of a file.
+module _ (t : Tree) (g : ℕ) (s : Setting) where
+  abbrev values : List SettingValue
+  values = shown s (settingsAt t g)
+
+  lines-shown : linesOf (shownBy t g s) ≡ map ended (map valueText values)
+  unfolding contents
+  lines-shown = lines-of-each (map valueText values) (all-images Unbroken valueText values (all-of _ unbroken-value values))
+
+  -- what holds of the line of every value holds of every line
+  all-lines : (P : List ℕ → Type 0) → All (λ v. P (ended (valueText v))) values → All P (linesOf (shownBy t g s))
+  all-lines P h = rw lines-shown (all-images P ended (map valueText values) (all-images (λ w. P (ended w)) valueText values h))
+
+one-line : (v : SettingValue) → linesOf (joined (ended (valueText v) ∷ [])) ≡ joined (ended (valueText v) ∷ []) ∷ []
+unfolding All joined
+one-line v = lines-of-each (valueText v ∷ []) (unbroken-value v, tt) ∙ ap (λ (l : List ℕ). l ∷ []) (sym (append-nil (ended (valueText v))))
+
+one-value : (t : Tree) (g : ℕ) (s : Setting) → linesOf (shownBy t g s) ≡ shownBy t g s ∷ []
+unfolding contents shown
+one-value t g CpuWeight = one-line _
+one-value t g CpuMax = one-line _
+one-value t g (Max r) = one-line _
 
 pub write-back : (t : Tree) → WellFormed t → WriteBack t
 write-back t well =
     record {
       shown = λ g s buffer l o f. file-read t well (Value s) g buffer l o f;
-      accepted = accepted-back t well;
-      same = same-back t well;
+      each = λ user g s l o m.
+          all-lines t g s (λ line. WrittenBack t user g s line × WrittenBack t user g s (body line))
+          (all-map _ _ (shown s (settingsAt t g))
+          (λ v k. (
+            written-back t well user g s l o m v (ended (valueText v)) k (rw body-ended) (simp length-append (omega (arith, k .short))),
+            rw body-ended
+                (written-back t well user g s l o m v (valueText v) k (rw (body-unbroken (valueText v) (unbroken-value v))) (omega (arith, k .short))),
+          ))
+          (all-shown s (settingsAt t g) (well .ranges .within g l)));
+      whole = λ g s. joined-lines (shownBy t g s);
+      one = one-value t;
     }

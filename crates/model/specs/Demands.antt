@@ -6,10 +6,11 @@ use mathlib.Core.List.{List, [], _∷_, _++_}
 use mathlib.Core.Logic.{_≢_}
 use mathlib.Core.Option.{none, some}
 use mathlib.Core.Path.{_≡_}
+use Rattle.model.specs.Functions.{All}
 use Rattle.model.specs.Checks.{errnoNumber, Says}
 use Rattle.model.specs.Tree.{Tree, depths, groupOf, controllerOf, cores, lives, parents, places}
 use Rattle.model.specs.Hierarchy.{chain, commonAncestor, on, inside, amount, factsOf}
-use Rattle.model.specs.Text.{ended, body, decimal}
+use Rattle.model.specs.Text.{ended, joined, body, linesOf, decimal}
 use Rattle.model.specs.Names.{settingName, fileName}
 use Rattle.model.specs.Control.{hasBadWord, Part, firstBadWord}
 use Rattle.model.specs.Words.{Dropped, FirstBad, HasBad}
@@ -67,18 +68,24 @@ pub record Exactly (t : Tree) (c : Call) : Type 0 where
   pub only : (a : Answer) → Says (checks (factsOf t) c) a → a ≡ verdict t c
   pub accepted : verdict t c ≡ Done → (step t c ≡ effect t c) × (reply t c .number ≡ 0)
 
--- "What a settings file shows can be written back by whoever may write it, and changes nothing."
-abbrev pub writtenBack : Tree → ℕ → ℕ → Setting → Call
-writtenBack t user g s = writeSetting user g (settingName s) (contents (factsOf t) g (Value s))
+-- "What a settings file shows can be written back by whoever may write it, and changes nothing." Each
+-- line that it shows, as it stands and without its newline; there is one.
+abbrev pub shownBy : Tree → ℕ → Setting → List ℕ
+shownBy t g s = contents (factsOf t) g (Value s)
+
+pub record WrittenBack (t : Tree) (user g : ℕ) (s : Setting) (line : List ℕ) : Type 0 where
+  pub accepted : verdict t (writeSetting user g (settingName s) line) ≡ Done
+  pub same : step t (writeSetting user g (settingName s) line) ≡ t
 
 pub record WriteBack (t : Tree) : Type 0 where
   pub shown : (g : ℕ) (s : Setting) (buffer : List ℕ) → lives t g ≡ true → on t (settingController s) g ≡ true
-      → fits (contents (factsOf t) g (Value s)) buffer ≡ true
-      → reply t (read g (settingName s) buffer) ≡ textReply Done (contents (factsOf t) g (Value s)) buffer
-  pub accepted : (user g : ℕ) (s : Setting) → lives t g ≡ true → on t (settingController s) g ≡ true
-      → mayWrite t user (parents t g) ≡ true → verdict t (writtenBack t user g s) ≡ Done
-  pub same : (user g : ℕ) (s : Setting) → lives t g ≡ true → on t (settingController s) g ≡ true
-      → mayWrite t user (parents t g) ≡ true → step t (writtenBack t user g s) ≡ t
+      → fits (shownBy t g s) buffer ≡ true
+      → reply t (read g (settingName s) buffer) ≡ textReply Done (shownBy t g s) buffer
+  pub each : (user g : ℕ) (s : Setting) → lives t g ≡ true → on t (settingController s) g ≡ true
+      → mayWrite t user (parents t g) ≡ true
+      → All (λ line. WrittenBack t user g s line × WrittenBack t user g s (body line)) (linesOf (shownBy t g s))
+  pub whole : (g : ℕ) (s : Setting) → joined (linesOf (shownBy t g s)) ≡ shownBy t g s
+  pub one : (g : ℕ) (s : Setting) → linesOf (shownBy t g s) ≡ shownBy t g s ∷ []
 
 -- a call that asks for n more of a resource, and the process that it asks for
 pub data Asks : Resource → ℕ → ℕ → Call → Type 0 where

@@ -7,6 +7,7 @@ pub mod Text
 pub mod Names
 pub mod Control
 pub mod Words
+pub mod Figures
 pub mod Settings
 pub mod Rooms
 pub mod Rules

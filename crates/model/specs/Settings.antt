@@ -1,16 +1,17 @@
--- The four settings: their words, ranges, defaults, and what a reader sees of them. Document 01, "Write a setting" and
--- "Settings and defaults". A value is read in three steps, as the paper's two refusals ask: its form, its range, its effect.
--- Assumes nothing.
+-- The settings: their words, ranges, defaults, and what a reader sees of them. Document 01, "Write a setting" and "Settings and
+-- defaults". A value is read in three steps, as the paper's two refusals ask: its form, its range, its effect.
+-- What is particular to a controller is `part`, its own piece of the settings. Assumes nothing.
 use Prim.Native.Nat.{ℕ, _+_, _-_, _*_, _/_}
 use mathlib.Core.Bool.{Bool, true, _&&_}
-use mathlib.Core.List.{List, [], _∷_, _++_}
+use mathlib.Core.List.{List, [], _∷_, _++_, map}
 use mathlib.Core.Option.{Option, none, some}
 use mathlib.Core.Path.{_≡_}
-use lib.Dec.{leb}
-use Rattle.model.specs.Functions.{pick, mapped}
+use Rattle.model.specs.Functions.{pick, mapped, All}
 use Rattle.model.specs.Sizes.{pageBytes}
-use Rattle.model.specs.Tree.{defaultCpu, Settings, withLimit, controllerOf}
-use Rattle.model.specs.Text.{bytes, space, sameBytes, numberWord, decimal}
+use Rattle.model.specs.Tree.{CpuSettings, defaultCpu, Settings, newSettings, withCpu, withAmounts, withLimit, controllerOf}
+use Rattle.model.specs.Text.{space, ended, numberWord, decimal}
+unfoldable pub use Rattle.model.specs.Figures.{limitWord}
+pub use Rattle.model.specs.Figures.{between, figureIn, limitText}
 use Rattle.model.specs.declared.Resource.{Resource}
 use Rattle.model.specs.declared.Resource.the-variants.{Pages, Processes}
 use Rattle.model.specs.declared.Limit.{Limit}
@@ -32,39 +33,34 @@ pub data SettingValue : Type 0 where
   maximum : Resource → Limit → SettingValue
 
 -- The form of a value.
--- "max", or a number word
-unfoldable pub limitWord : List ℕ → Option Limit
-limitWord w = pick (sameBytes w (bytes "max")) (some NoLimit) (mapped Figure (numberWord w))
+-- "Settings take one word": what a line of one word is read as
+abbrev pub oneWord : {A : Type 0} → (List ℕ → Option A) → List (List ℕ) → Option A
+oneWord read [] = none
+oneWord read (w ∷ []) = read w
+oneWord read (w ∷ v ∷ vs) = none
 
--- a quota and a period, both well formed
+-- "cpu.max one or two": a quota, and perhaps a period, both well formed
 abbrev pub bandwidthOf : Option Limit → Option ℕ → Option SettingValue
 bandwidthOf none p = none
 bandwidthOf (some q) none = none
 bandwidthOf (some q) (some p) = some (bandwidth q (some p))
 
--- "Settings take one word, cpu.max one or two."
+abbrev pub bandwidthWords : List (List ℕ) → Option SettingValue
+bandwidthWords [] = none
+bandwidthWords (w ∷ []) = mapped (λ q. bandwidth q none) (limitWord w)
+bandwidthWords (w ∷ v ∷ []) = bandwidthOf (limitWord w) (numberWord v)
+bandwidthWords (w ∷ v ∷ u ∷ us) = none
+
 unfoldable pub valueOf : Setting → List (List ℕ) → Option SettingValue
-valueOf s [] = none
-valueOf CpuWeight (w ∷ []) = mapped weight (numberWord w)
-valueOf CpuMax (w ∷ []) = mapped (λ q. bandwidth q none) (limitWord w)
-valueOf (Max r) (w ∷ []) = mapped (maximum r) (limitWord w)
-valueOf CpuWeight (w ∷ v ∷ []) = none
-valueOf CpuMax (w ∷ v ∷ []) = bandwidthOf (limitWord w) (numberWord v)
-valueOf (Max r) (w ∷ v ∷ []) = none
-valueOf s (w ∷ v ∷ u ∷ us) = none
+valueOf CpuWeight ws = mapped weight (oneWord numberWord ws)
+valueOf CpuMax ws = bandwidthWords ws
+valueOf (Max r) ws = mapped (maximum r) (oneWord limitWord ws)
 
 -- The range of a value.
-abbrev pub between : ℕ → ℕ → ℕ → Bool
-between low high n = leb low n && leb n high
-
 -- the largest figure of memory.max, in bytes, and of pids.max
 abbrev pub largest : Resource → ℕ
 largest Pages = 4503599627370496
 largest Processes = 4194304
-
-abbrev pub figureIn : ℕ → ℕ → Limit → Bool
-figureIn low high NoLimit = true
-figureIn low high (Figure n) = between low high n
 
 abbrev pub periodIn : Option ℕ → Bool
 periodIn none = true
@@ -95,23 +91,16 @@ mapLimit f (Figure n) = Figure (f n)
 
 -- "One word leaves the period."
 unfoldable pub put : SettingValue → Settings → Settings
-put (weight n) s =
-    record { limit = s .limit; cpu = record { weight = n; quota = s .cpu .quota; period = s .cpu .period } }
-put (bandwidth q none) s =
-    record { limit = s .limit; cpu = record { weight = s .cpu .weight; quota = q; period = s .cpu .period } }
-put (bandwidth q (some p)) s =
-    record { limit = s .limit; cpu = record { weight = s .cpu .weight; quota = q; period = p } }
-put (maximum r l) s = record { limit = withLimit r (mapLimit (toAmount r) l) (s .limit); cpu = s .cpu }
+put (weight n) s = withCpu (record { weight = n; quota = s .cpu .quota; period = s .cpu .period }) s
+put (bandwidth q none) s = withCpu (record { weight = s .cpu .weight; quota = q; period = s .cpu .period }) s
+put (bandwidth q (some p)) s = withCpu (record { weight = s .cpu .weight; quota = q; period = p }) s
+put (maximum r l) s = withAmounts (withLimit r (mapLimit (toAmount r) l) (s .limit)) s
 
--- What a reader sees of a setting: its value, and the value as text.
-unfoldable pub shown : Setting → Settings → SettingValue
-shown CpuWeight s = weight (s .cpu .weight)
-shown CpuMax s = bandwidth (s .cpu .quota) (some (s .cpu .period))
-shown (Max r) s = maximum r (mapLimit (toFigure r) (s .limit r))
-
-abbrev pub limitText : Limit → List ℕ
-limitText NoLimit = bytes "max"
-limitText (Figure n) = decimal n
+-- What a reader sees of a setting: its values, one a line, and each as text.
+unfoldable pub shown : Setting → Settings → List SettingValue
+shown CpuWeight s = weight (s .cpu .weight) ∷ []
+shown CpuMax s = bandwidth (s .cpu .quota) (some (s .cpu .period)) ∷ []
+shown (Max r) s = maximum r (mapLimit (toFigure r) (s .limit r)) ∷ []
 
 unfoldable pub valueText : SettingValue → List ℕ
 valueText (weight n) = decimal n
@@ -119,11 +108,24 @@ valueText (bandwidth q none) = limitText q
 valueText (bandwidth q (some p)) = limitText q ++ (space ∷ decimal p)
 valueText (maximum r l) = limitText l
 
+-- the lines of its file
+abbrev pub shownLines : Setting → Settings → List (List ℕ)
+shownLines x s = map ended (map valueText (shown x s))
+
+-- the piece of the settings that is a controller's
+abbrev pub Part : Controller → Type 0
+Part Cpu = CpuSettings
+Part Memory = Limit
+Part Pids = Limit
+
+abbrev pub part : (c : Controller) → Settings → Part c
+part Cpu s = s .cpu
+part Memory s = s .limit Pages
+part Pids s = s .limit Processes
+
 -- "Settings and defaults": whether a controller's settings are at their defaults
 unfoldable pub AtDefault : Controller → Settings → Type 0
-AtDefault Cpu s = s .cpu ≡ defaultCpu
-AtDefault Memory s = s .limit Pages ≡ NoLimit
-AtDefault Pids s = s .limit Processes ≡ NoLimit
+AtDefault c s = part c s ≡ part c newSettings
 
 -- the settings with those of some controllers back at their defaults
 unfoldable pub reset : (Controller → Bool) → Settings → Settings
@@ -132,3 +134,7 @@ reset gone s =
       limit = λ r. pick (gone (controllerOf r)) NoLimit (s .limit r);
       cpu = pick (gone Cpu) defaultCpu (s .cpu);
     }
+
+-- What writes leave: every value that is shown is in its range.
+pub record Allowed (s : Settings) : Type 0 where
+  pub values : (x : Setting) → All (λ v. inRange v ≡ true) (shown x s)

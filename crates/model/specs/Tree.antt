@@ -108,6 +108,17 @@ abbrev pub withSettings : Settings → Group → Group
 withSettings s g =
     record { core = withLimits (s .limit) (g .core); depth = g .depth; owner = g .owner; set = g .set; cpu = s .cpu }
 
+-- the settings of a group when it is made: "Settings and defaults"
+abbrev pub newSettings : Settings
+newSettings = record { limit = λ r. NoLimit; cpu = defaultCpu }
+
+-- One part of them changed.
+abbrev pub withAmounts : (Resource → Limit) → Settings → Settings
+withAmounts l s = record { limit = l; cpu = s .cpu }
+
+abbrev pub withCpu : CpuSettings → Settings → Settings
+withCpu c s = record { limit = s .limit; cpu = c }
+
 -- the limits with that of one resource changed
 abbrev pub withLimit : Resource → Limit → (Resource → Limit) → Resource → Limit
 withLimit Pages l f Pages = l

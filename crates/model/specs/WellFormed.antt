@@ -7,9 +7,8 @@ use mathlib.Core.Path.{_≡_}
 use Rattle.model.specs.Sizes.{groups, processes, deepest, largestMachine}
 use Rattle.model.specs.Tree.{Tree, Group, Process, Place, nowhere, at, Controls, Settings, noGroup, noProcess, cores, lives, parents, depths, owners, sets, settingsAt, places}
 use Rattle.model.specs.Hierarchy.{onIn, usage}
-use Rattle.model.specs.Settings.{shown, inRange, AtDefault}
+use Rattle.model.specs.Settings.{AtDefault, Allowed}
 use Rattle.model.specs.declared.Controller.{Controller}
-use Rattle.model.specs.declared.Setting.{Setting}
 
 -- the live groups are a tree: parents are live, depths are one more than the parent's and at most the deepest
 pub record Sound (live : ℕ → Bool) (parent depth : ℕ → ℕ) : Type 0 where
@@ -37,7 +36,7 @@ pub record Defaults (live : ℕ → Bool) (parent : ℕ → ℕ) (set : ℕ → 
 
 -- the values that the settings' files show are in their ranges
 pub record Ranges (live : ℕ → Bool) (setting : ℕ → Settings) : Type 0 where
-  pub within : (s : Setting) (g : ℕ) → live g ≡ true → inRange (shown s (setting g)) ≡ true
+  pub within : (g : ℕ) → live g ≡ true → Allowed (setting g)
 
 -- the inner-process rule: no live process in a group other than the root that has a set
 pub record NoInternalProcesses (place : ℕ → Place) (set : ℕ → Controls) : Type 0 where

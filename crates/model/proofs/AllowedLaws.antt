@@ -1,0 +1,90 @@
+-- What is allowed of settings, in a group when it is made, after a reset, and after a value: ranges.
+-- Assumes nothing.
+use Prim.Native.Nat.{ℕ, _≤_}
+use native.Mathlib.Omega.{arith}
+use mathlib.Core.Bool.{Bool, true}
+use mathlib.Core.List.{[], _∷_}
+use mathlib.Core.Option.{none, some}
+use mathlib.Core.Path.{_≡_, refl, ap}
+use borrow.Author.Tests.{le-leb}
+use Rattle.model.specs.Functions.{All}
+use Rattle.model.specs.Tree.{CpuSettings, Settings, newSettings}
+use Rattle.model.specs.Figures.{figureIn}
+use Rattle.model.specs.Settings.{settingController, SettingValue, weight, bandwidth, maximum, largest, inRange, toAmount, toFigure, mapLimit, put, shown, part, reset, Allowed}
+use Rattle.model.specs.declared.Resource.{Resource}
+use Rattle.model.specs.declared.Resource.the-variants.{Pages, Processes}
+use Rattle.model.specs.declared.Limit.{Limit}
+use Rattle.model.specs.declared.Limit.the-variants.{NoLimit, Figure}
+use Rattle.model.specs.declared.Controller.{Controller}
+use Rattle.model.specs.declared.Setting.{Setting}
+use Rattle.model.specs.declared.Setting.the-variants.{CpuWeight, CpuMax, Max}
+use Rattle.model.proofs.FunctionLaws.{split}
+use Rattle.model.proofs.FigureLaws.{between-le}
+use Rattle.model.proofs.SettingLaws.{withLimit-all, range-of-quota, range-of-period}
+use Rattle.model.proofs.PartLaws.{part-reset, part-kept}
+
+-- What is allowed, after a change.
+abbrev InRange : SettingValue → Type 0
+InRange v = inRange v ≡ true
+
+pub allowed-new : Allowed newSettings
+unfolding inRange shown All
+allowed-new = record { values = values }
+  where
+    values : (s : Setting) → All InRange (shown s newSettings)
+    values CpuWeight = (refl, tt)
+    values CpuMax = (refl, tt)
+    values (Max r) = (refl, tt)
+
+-- what a setting shows is its controller's part alone
+shown-of-part : (s : Setting) (st su : Settings) → part (settingController s) st ≡ part (settingController s) su → shown s st ≡ shown s su
+unfolding shown
+shown-of-part CpuWeight st su e = ap (λ (x : CpuSettings). weight (x .weight) ∷ []) e
+shown-of-part CpuMax st su e = ap (λ (x : CpuSettings). bandwidth (x .quota) (some (x .period)) ∷ []) e
+shown-of-part (Max Pages) st su e = ap (λ (l : Limit). maximum Pages (mapLimit (toFigure Pages) l) ∷ []) e
+shown-of-part (Max Processes) st su e = ap (λ (l : Limit). maximum Processes (mapLimit (toFigure Processes) l) ∷ []) e
+
+pub allowed-after-reset : (gone : Controller → Bool) (st : Settings) → Allowed st → Allowed (reset gone st)
+allowed-after-reset gone st h =
+    record {
+      values = λ s.
+          let c : Controller = settingController s in
+          split (gone c)
+          (λ y. rw (shown-of-part s (reset gone st) newSettings (part-reset gone c st y)) (allowed-new .values s))
+          (λ n. rw (shown-of-part s (reset gone st) st (part-kept gone c st n)) (h .values s));
+    }
+
+-- rounding does not leave the range
+rounded-le : (r : Resource) (n : ℕ) → n ≤ largest r → toFigure r (toAmount r n) ≤ largest r
+rounded-le Pages n h = omega arith
+rounded-le Processes n h = h
+
+figureIn-rounded : (r : Resource) (l : Limit) → figureIn 0 (largest r) l ≡ true
+    → figureIn 0 (largest r) (mapLimit (toFigure r) (mapLimit (toAmount r) l)) ≡ true
+figureIn-rounded r NoLimit e = refl
+figureIn-rounded r (Figure n) e =
+    let m = toFigure r (toAmount r n) in
+    rw (le-leb 0 m (omega arith), le-leb m (largest r) (rounded-le r n (between-le 0 (largest r) n e)))
+
+values-after-put : (v : SettingValue) (st : Settings) → InRange v → Allowed st → (s : Setting) → All InRange (shown s (put v st))
+unfolding inRange shown put All
+values-after-put (weight n) st e h CpuWeight = (e, tt)
+values-after-put (weight n) st e h CpuMax = h .values CpuMax
+values-after-put (weight n) st e h (Max r) = h .values (Max r)
+values-after-put (bandwidth q none) st e h CpuWeight = h .values CpuWeight
+values-after-put (bandwidth q none) st e h CpuMax =
+    (rw (range-of-quota q none e) (range-of-period (st .cpu .quota) (some (st .cpu .period)) (h .values CpuMax .0)), tt)
+values-after-put (bandwidth q none) st e h (Max r) = h .values (Max r)
+values-after-put (bandwidth q (some p)) st e h CpuWeight = h .values CpuWeight
+values-after-put (bandwidth q (some p)) st e h CpuMax = (e, tt)
+values-after-put (bandwidth q (some p)) st e h (Max r) = h .values (Max r)
+values-after-put (maximum r l) st e h CpuWeight = h .values CpuWeight
+values-after-put (maximum r l) st e h CpuMax = h .values CpuMax
+values-after-put (maximum r l) st e h (Max x) = (
+  withLimit-all (λ y m. figureIn 0 (largest y) (mapLimit (toFigure y) m) ≡ true) r _ (st .limit)
+      (figureIn-rounded r l e) (λ y. h .values (Max y) .0) x,
+  tt,
+)
+
+pub allowed-after-put : (v : SettingValue) (st : Settings) → inRange v ≡ true → Allowed st → Allowed (put v st)
+allowed-after-put v st e h = record { values = values-after-put v st e h }

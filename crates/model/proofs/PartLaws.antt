@@ -1,0 +1,73 @@
+-- What is particular to a controller: its part of the settings, after a reset and after a value for another one's setting. Then defaults,
+-- for any controller. Assumes nothing.
+use Prim.Native.Nat.{ℕ}
+use mathlib.Core.Bool.{Bool, true, false}
+use mathlib.Core.List.{List}
+use mathlib.Core.Logic.{_≢_}
+use mathlib.Core.Option.{none, some}
+use mathlib.Core.Path.{_≡_, refl, _∙_}
+use Rattle.model.specs.Functions.{pick}
+use Rattle.model.specs.Tree.{CpuSettings, Settings, newSettings, withCpu, withAmounts, withLimit, controllerOf}
+use Rattle.model.specs.Settings.{settingController, SettingValue, weight, bandwidth, maximum, valueOf, put, part, AtDefault, reset}
+use Rattle.model.specs.declared.Resource.{Resource}
+use Rattle.model.specs.declared.Resource.the-variants.{Pages, Processes}
+use Rattle.model.specs.declared.Limit.{Limit}
+use Rattle.model.specs.declared.Controller.{Controller}
+use Rattle.model.specs.declared.Controller.the-variants.{Cpu, Memory, Pids}
+use Rattle.model.specs.declared.Setting.{Setting}
+use Rattle.model.proofs.FunctionLaws.{split}
+use Rattle.model.proofs.SettingLaws.{settingOf, settingOf-valueOf}
+
+-- The part of a controller, after a reset and after a value for another one's setting.
+part-after-reset : (gone : Controller → Bool) (st : Settings) (c : Controller)
+    → part c (reset gone st) ≡ pick (gone c) (part c newSettings) (part c st)
+unfolding reset
+part-after-reset gone st Cpu = refl
+part-after-reset gone st Memory = refl
+part-after-reset gone st Pids = refl
+
+part-with-cpu : (x : CpuSettings) (st : Settings) (c : Controller) → Cpu ≢ c → part c (withCpu x st) ≡ part c st
+part-with-cpu x st Cpu ne = absurd (ne refl)
+part-with-cpu x st Memory ne = refl
+part-with-cpu x st Pids ne = refl
+
+part-with-limit : (r : Resource) (l : Limit) (st : Settings) (c : Controller) → controllerOf r ≢ c
+    → part c (withAmounts (withLimit r l (st .limit)) st) ≡ part c st
+part-with-limit r l st Cpu ne = refl
+part-with-limit Pages l st Memory ne = absurd (ne refl)
+part-with-limit Processes l st Memory ne = refl
+part-with-limit Pages l st Pids ne = refl
+part-with-limit Processes l st Pids ne = absurd (ne refl)
+
+part-after-put-other : (v : SettingValue) (st : Settings) (c : Controller) → settingController (settingOf v) ≢ c → part c (put v st) ≡ part c st
+unfolding put
+part-after-put-other (weight n) st c ne = part-with-cpu _ st c ne
+part-after-put-other (bandwidth q none) st c ne = part-with-cpu _ st c ne
+part-after-put-other (bandwidth q (some p)) st c ne = part-with-cpu _ st c ne
+part-after-put-other (maximum r l) st c ne = part-with-limit r _ st c ne
+
+-- Defaults, for any controller.
+pub default-new : (c : Controller) → AtDefault c newSettings
+unfolding AtDefault
+default-new c = refl
+
+module _ (gone : Controller → Bool) (c : Controller) (st : Settings) where
+  pub part-reset : gone c ≡ true → part c (reset gone st) ≡ part c newSettings
+  part-reset y = part-after-reset gone st c ∙ rw y
+
+  pub part-kept : gone c ≡ false → part c (reset gone st) ≡ part c st
+  part-kept n = part-after-reset gone st c ∙ rw n
+
+  pub default-of-reset : gone c ≡ true → AtDefault c (reset gone st)
+  unfolding AtDefault
+  default-of-reset y = part-reset y
+
+  pub default-after-reset : AtDefault c st → AtDefault c (reset gone st)
+  unfolding AtDefault
+  default-after-reset h = split (gone c) (λ y. part-reset y) (λ n. part-kept n ∙ h)
+
+-- a value for a setting of another controller
+pub default-after-put : (s : Setting) (ws : List (List ℕ)) (v : SettingValue) (c : Controller) (st : Settings)
+    → valueOf s ws ≡ some v → settingController s ≢ c → AtDefault c st → AtDefault c (put v st)
+unfolding AtDefault
+default-after-put s ws v c st e ne h = part-after-put-other v st c (rw (settingOf-valueOf s ws v e) ne) ∙ h
