@@ -1,25 +1,23 @@
 -- How a call's promise is met: by a refusal, which leaves the words as they are, or by stores after which the words stand for
--- the tree of the definitions and the sums are right. Assumes nothing.
+-- the tree of the definitions and the sums are what is counted in it. Assumes nothing.
 use Prim.Native.Nat.{ℕ}
-use mathlib.Core.Bool.{true}
 use mathlib.Core.List.{List}
 use mathlib.Core.Path.{_≡_, refl, sym, _∙_, subst}
 use lib.ListN.{length}
-use Rattle.model.specs.Tree.{Tree, cores, lives, places}
-use Rattle.model.specs.Hierarchy.{amount}
+use Rattle.model.specs.Tree.{Tree, cores, places}
 use Rattle.model.specs.Calls.{Call, verdict}
 use Rattle.model.specs.Effects.{effect}
 use Rattle.model.specs.WellFormed.{WellFormed}
-use Rattle.model.specs.declared.Resource.{Resource}
 use Rattle.model.specs.declared.Errno.{Errno}
 use Rattle.model.specs.declared.Answer.{Answer}
 use Rattle.model.specs.declared.Answer.the-variants.{Done, Refused}
 use Rattle.model.proofs.CheckLaws.{not-done}
 use Rattle.model.proofs.Steps.{step-accepted, step-refused, passed, well-formed-effect}
-use Rattle.tree.specs.Layout.{words, view, sumIn}
+use Rattle.tree.specs.Layout.{words, view, Spare}
 use Rattle.tree.specs.Changes.{Wrote}
-use Rattle.tree.specs.Kept.{Kept}
+use Rattle.tree.specs.Kept.{Summed, Kept}
 use Rattle.tree.specs.Calling.{Calling, Applied}
+use Rattle.tree.proofs.CountLaws.{SameCores, count-same}
 
 module _ (xs : List ℕ) (k : Kept xs) (c : Call) where
   pub call-refused : {A : Type 0} (expected r : A) (e : Errno) → verdict (view xs) c ≡ Refused e → r ≡ expected → Calling xs xs c expected r
@@ -40,33 +38,28 @@ module _ (xs : List ℕ) (k : Kept xs) (c : Call) where
           same = λ e n. not-done e (sym n ∙ v);
         }
 
-    -- the words stand for the definitions' tree, and the sums are its amounts
-    pub applied : (ys : List ℕ) → length ys ≡ words → view ys ≡ effect (view xs) c
-        → ((r : Resource) (g : ℕ) → lives (effect (view xs) c) g ≡ true → sumIn ys r g ≡ amount (cores (effect (view xs) c)) (places (effect (view xs) c)) r g)
-        → Applied xs ys c
-    applied ys l e s =
+    -- the words stand for the definitions' tree, the sums are what their counters count in it, and spare words are 0
+    pub applied : (ys : List ℕ) → length ys ≡ words → view ys ≡ effect (view xs) c → Summed ys (effect (view xs) c) → Spare ys → Applied xs ys c
+    applied ys l e s z =
         record {
           tree = e;
           kept =
               record {
                 long = l;
                 formed = subst WellFormed (sym e) (well-formed-effect (view xs) c (k .formed) (passed (view xs) c v));
-                sums =
-                    subst (λ (t : Tree). (r : Resource) (g : ℕ) → lives t g ≡ true → sumIn ys r g ≡ amount (cores t) (places t) r g) (sym e) s;
+                sums = subst (Summed ys) (sym e) s;
+                spare = z;
               };
         }
 
     -- the same where the effect is known as u
-    pub applied-as : (ys : List ℕ) (u : Tree) → effect (view xs) c ≡ u → length ys ≡ words → view ys ≡ u
-        → ((r : Resource) (g : ℕ) → lives u g ≡ true → sumIn ys r g ≡ amount (cores u) (places u) r g) → Applied xs ys c
-    applied-as ys u f l e s =
-        applied ys l (e ∙ sym f)
-        (subst (λ (t : Tree). (r : Resource) (g : ℕ) → lives t g ≡ true → sumIn ys r g ≡ amount (cores t) (places t) r g) (sym f) s)
+    pub applied-as : (ys : List ℕ) (u : Tree) → effect (view xs) c ≡ u → length ys ≡ words → view ys ≡ u → Summed ys u → Spare ys → Applied xs ys c
+    applied-as ys u f l e s z = applied ys l (e ∙ sym f) (subst (Summed ys) (sym f) s) z
 
-    -- stores that change no sum, for an effect that changes no amount
-    pub applied-wrote : (ys : List ℕ) → Wrote xs ys (effect (view xs) c)
-        → ((g : ℕ) → lives (effect (view xs) c) g ≡ true → lives (view xs) g ≡ true)
-        → ((r : Resource) (g : ℕ) → amount (cores (effect (view xs) c)) (places (effect (view xs) c)) r g ≡ amount (cores (view xs)) (places (view xs)) r g)
-        → Applied xs ys c
-    applied-wrote ys w l s =
-        applied ys (w .long) (w .tree) (λ r g h. w .sums r g ∙ k .sums r g (l g h) ∙ sym (s r g))
+    -- stores that change no sum, for an effect that changes nothing that is counted
+    pub applied-wrote : (ys : List ℕ) → Wrote xs ys (effect (view xs) c) → SameCores (cores (view xs)) (cores (effect (view xs) c))
+        → places (effect (view xs) c) ≡ places (view xs) → Applied xs ys c
+    applied-wrote ys w same still =
+        applied ys (w .long) (w .tree)
+        (λ d g. w .sums d g ∙ k .sums d g ∙ sym (count-same _ _ _ _ same still d g))
+        (w .spare (k .spare))

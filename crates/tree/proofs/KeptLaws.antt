@@ -4,7 +4,7 @@ use Prim.Native.Nat.{ℕ, zero, suc, _+_, _≤_, _<_}
 use native.Mathlib.Omega.{arith}
 use mathlib.Core.Bool.{Bool, true, false}
 use mathlib.Core.List.{List, [], _∷_}
-use mathlib.Core.Path.{_≡_, refl, ap, ap₂, _∙_}
+use mathlib.Core.Path.{_≡_, ap₂, _∙_, fun-ext}
 use Rattle.model.specs.Functions.{pick, weigh, sum, member}
 use Rattle.model.specs.Sizes.{groups, processes, largestMachine}
 use Rattle.model.specs.Tree.{Tree, Core, Place, nowhere, at, groupOf, cores, lives, parents, places}
@@ -19,8 +19,10 @@ use Rattle.model.proofs.ChainLaws.{inside-live, root-inside}
 use Rattle.model.proofs.AmountLaws.{own-within-usage}
 use Rattle.tree.specs.Layout.{view, sumIn}
 use Rattle.tree.specs.Counters.{listed, ChainOf, HasParent, Adjustable, Searchable}
-use Rattle.tree.specs.Kept.{Kept}
+use Rattle.tree.specs.Kept.{groupsInside, countOf, Kept}
 use Rattle.tree.specs.declared.chain.Chain.{Chain}
+use Rattle.tree.specs.declared.sum.Counter.{Counter}
+use Rattle.tree.specs.declared.sum.Counter.the-variants.{Of, Groups}
 
 -- Sums are within the root's, and so within the machine; there are no more processes than numbers.
 sum-le : (n : ℕ) (f g : ℕ → ℕ) → ((j : ℕ) → j < n → f j ≤ g j) → sum n f ≤ sum n g
@@ -38,7 +40,7 @@ unfolding weigh
 weigh-le true w = omega arith
 weigh-le false w = omega arith
 
-pub usage-below-root : (t : Tree) → WellFormed t → (a : ℕ) → usage (cores t) a ≤ usage (cores t) 0
+usage-below-root : (t : Tree) → WellFormed t → (a : ℕ) → usage (cores t) a ≤ usage (cores t) 0
 unfolding usage held
 usage-below-root t w a =
     sum-le groups _ _
@@ -55,27 +57,28 @@ population-few : (s : ℕ → Core) (pl : ℕ → Place) (a : ℕ) → populatio
 unfolding population held
 population-few s pl a = sum-ones processes _ (λ p. omega (arith, weigh-le (inside (λ k. s k .parent) a (groupOf (pl p))) (headcount (pl p)), head-le (pl p)))
 
-pub amount-small : (t : Tree) → WellFormed t → (r : Resource) (a : ℕ) → amount (cores t) (places t) r a ≤ largestMachine
+amount-small : (t : Tree) → WellFormed t → (r : Resource) (a : ℕ) → amount (cores t) (places t) r a ≤ largestMachine
 amount-small t w Pages a = omega (arith, usage-below-root t w a, w .sized .fits, w .sized .size)
 amount-small t w Processes a = omega (arith, population-few (cores t) (places t) a)
+
+groups-few : (s : ℕ → Core) (a : ℕ) → groupsInside s a ≤ groups
+unfolding groupsInside held
+groups-few s a =
+    sum-ones groups _
+    (λ g. omega (arith, weigh-le (inside (λ k. s k .parent) a g) (weigh (s g .live) 1), weigh-le (s g .live) 1))
+
+count-small : (t : Tree) → WellFormed t → (c : Counter) (a : ℕ) → countOf (cores t) (places t) c a ≤ largestMachine
+count-small t w (Of r) a = amount-small t w r a
+count-small t w Groups a = omega (arith, groups-few (cores t) a)
 
 -- The groups of a chain are live.
 pub on-chain-live : {live : ℕ → Bool} {up depth : ℕ → ℕ} (s : Sound live up depth) (g a : ℕ) → live g ≡ true → member a (chain up g) ≡ true → live a ≡ true
 unfolding inside
 on-chain-live s g a l m = inside-live s a g l m
 
--- The search for room asks for the amounts of its own groups only.
-consult-ext : (limit : ℕ → Limit) (f g : ℕ → ℕ) (n i : ℕ) (gs : List ℕ) → ((a : ℕ) → member a gs ≡ true → f a ≡ g a)
-    → consult limit f n i gs ≡ consult limit g n i gs
-unfolding consult
-consult-ext limit f g n i [] h = refl
-consult-ext limit f g n i (x ∷ xs) h =
-    ap₂ (λ (v : ℕ) (rest : Room). pick (over (v + n) (limit x)) (full x (suc i)) rest) (h x (member-here x xs))
-    (consult-ext limit f g n (suc i) xs (λ a m. h a (member-there a x xs m)))
-
 module _ (xs : List ℕ) (k : Kept xs) where
-  pub sum-small : (r : Resource) (a : ℕ) → lives (view xs) a ≡ true → sumIn xs r a ≤ largestMachine
-  sum-small r a l = omega (arith, k .sums r a l, amount-small (view xs) (k .formed) r a)
+  pub sum-small : (c : Counter) (a : ℕ) → sumIn xs c a ≤ largestMachine
+  sum-small c a = omega (arith, k .sums c a, count-small (view xs) (k .formed) c a)
 
   pub live-row : (a : ℕ) → lives (view xs) a ≡ true → HasParent xs a
   live-row a l =
@@ -113,30 +116,24 @@ module _ (xs : List ℕ) (k : Kept xs) where
     searchable r n few =
         record {
           live = λ a m. record { kept = k; live = chain-live a m };
-          room = λ a m. omega (arith, sum-small r a (chain-live a m));
+          room = λ a m. omega (arith, sum-small (Of r) a);
         }
 
-  pub adjustable : (g : ℕ) → lives (view xs) g ≡ true → (r : Resource) (n m : ℕ) → n ≤ 1048576
-      → ((a : ℕ) → inside (parents (view xs)) a g ≡ true → m ≤ amount (cores (view xs)) (places (view xs)) r a)
-      → Adjustable xs r g n m
-  adjustable g l r n m few enough =
+  pub adjustable : (g : ℕ) → lives (view xs) g ≡ true → (c : Counter) (n m : ℕ) → n ≤ 1048576
+      → ((a : ℕ) → inside (parents (view xs)) a g ≡ true → m ≤ countOf (cores (view xs)) (places (view xs)) c a)
+      → Adjustable xs c g n m
+  adjustable g l c n m few enough =
       let s = k .formed .sound in
       record {
         long = k .long;
         sound = s;
         live = l;
-        room = λ a i. omega (arith, sum-small r a (inside-live s a g l i));
-        enough = λ a i. omega (arith, enough a i, k .sums r a (inside-live s a g l i));
+        room = λ a i. omega (arith, sum-small c a);
+        enough = λ a i. omega (arith, enough a i, k .sums c a);
       }
 
   -- Room by the running sums is room by the definitions.
-  room-same : (r : Resource) (n g : ℕ) → lives (view xs) g ≡ true
-      → consult (actingLimit (view xs) r) (sumIn xs r) n 0 (chain (parents (view xs)) g)
-      ≡ consult (actingLimit (view xs) r) (amount (cores (view xs)) (places (view xs)) r) n 0 (chain (parents (view xs)) g)
-  room-same r n g l =
-      consult-ext (actingLimit (view xs) r) (sumIn xs r) (amount (cores (view xs)) (places (view xs)) r) n 0 (chain (parents (view xs)) g)
-      (λ a m. k .sums r a (on-chain-live (k .formed .sound) g a l m))
-
-  pub room-found : (g : ℕ) → lives (view xs) g ≡ true → (c : Chain) → ChainOf (view xs) g c → (r : Resource) (n : ℕ) (x : Room)
-      → x ≡ consult (actingLimit (view xs) r) (sumIn xs r) n 0 (listed c) → x ≡ roomFor (factsOf (view xs)) r n g
-  room-found g l c h r n x e = e ∙ ap (consult (actingLimit (view xs) r) (sumIn xs r) n 0) (h .groups) ∙ room-same r n g l
+  pub room-found : (g : ℕ) (c : Chain) → ChainOf (view xs) g c → (r : Resource) (n : ℕ) (x : Room)
+      → x ≡ consult (actingLimit (view xs) r) (sumIn xs (Of r)) n 0 (listed c) → x ≡ roomFor (factsOf (view xs)) r n g
+  room-found g c h r n x e =
+      e ∙ ap₂ (λ (f : ℕ → ℕ) (gs : List ℕ). consult (actingLimit (view xs) r) f n 0 gs) (fun-ext (k .sums (Of r))) (h .groups)

@@ -6,6 +6,7 @@ pub mod WalkLaws
 pub mod AdjustLaws
 pub mod ActingLaws
 pub mod KeptLaws
+pub mod CountLaws
 pub mod CallLaws
 pub mod AnsweredLaws
 pub mod TestLaws

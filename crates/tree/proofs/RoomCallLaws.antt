@@ -29,20 +29,22 @@ use Rattle.tree.specs.Counters.{listed, ChainOf, Searchable, roomOf}
 use Rattle.tree.specs.Kept.{Kept, KeptAt}
 use Rattle.tree.specs.Calling.{Calling, Applied}
 use Rattle.tree.specs.declared.chain.Chain.{Chain}
+use Rattle.tree.specs.declared.sum.Counter.{Counter}
+use Rattle.tree.specs.declared.sum.Counter.the-variants.{Of}
 use Rattle.tree.specs.declared.counter.Room.{Room}
 use Rattle.tree.specs.declared.counter.Room.the-variants.{Fits, Full}
 use Rattle.tree.proofs.KeptLaws.{searchable, room-found}
 use Rattle.tree.proofs.CallLaws.{call-refused, call-done}
 
 -- A running sum after n more and m less in g and above.
-pub sum-after-adjust : (xs ys : List ℕ) (g : ℕ) (r : Resource) (n m : ℕ) → Adjusted xs ys r g n m
-    → ((a : ℕ) → inside (parents (view xs)) a g ≡ true → m ≤ sumIn xs r a + n) → (a : ℕ)
-    → sumIn ys r a + weigh (inside (parents (view xs)) a g) m ≡ sumIn xs r a + weigh (inside (parents (view xs)) a g) n
-sum-after-adjust xs ys g r n m d enough a =
+pub sum-after-adjust : (xs ys : List ℕ) (g : ℕ) (c : Counter) (n m : ℕ) → Adjusted xs ys c g n m
+    → ((a : ℕ) → inside (parents (view xs)) a g ≡ true → m ≤ sumIn xs c a + n) → (a : ℕ)
+    → sumIn ys c a + weigh (inside (parents (view xs)) a g) m ≡ sumIn xs c a + weigh (inside (parents (view xs)) a g) n
+sum-after-adjust xs ys g c n m d enough a =
     let b : Bool = inside (parents (view xs)) a g in
     split b
-    (λ y. let z : sumIn ys r a ≡ sumIn xs r a + n - m = d .sums a ∙ rw y in omega (arith, enough a y, weigh-yes b m y, weigh-yes b n y))
-    (λ o. let z : sumIn ys r a ≡ sumIn xs r a = d .sums a ∙ rw o in omega (arith, weigh-no b m o, weigh-no b n o))
+    (λ y. let z : sumIn ys c a ≡ sumIn xs c a + n - m = d .sums a ∙ rw y in omega (arith, enough a y, weigh-yes b m y, weigh-yes b n y))
+    (λ o. let z : sumIn ys c a ≡ sumIn xs c a = d .sums a ∙ rw o in omega (arith, weigh-no b m o, weigh-no b n o))
 
 -- A call on kept words whose checks are a list cs and then the room for n more in the group of process p.
 pub record RoomCall (xs : List ℕ) (call : Call) (r : Resource) (n p : ℕ) (cs : List Check) (expected : RoomAnswer) : Type 0 where
@@ -72,9 +74,9 @@ module _ {xs : List ℕ} {call : Call} {r : Resource} {n p : ℕ} {cs : List Che
       room-call-searchable m few = searchable xs (o .kept) g (room-call-home .live) c h r m few
 
       -- what the search for room found
-      module _ (x : Room) (f : roomOf x ≡ consult (actingLimit (view xs) r) (sumIn xs r) n 0 (listed c)) where
+      module _ (x : Room) (f : roomOf x ≡ consult (actingLimit (view xs) r) (sumIn xs (Of r)) n 0 (listed c)) where
         found : roomOf x ≡ roomFor (factsOf (view xs)) r n (processGroup (view xs) p)
-        found = rw (← v .group) (room-found xs (o .kept) g (room-call-home .live) c h r n (roomOf x) f)
+        found = rw (← v .group) (room-found xs (o .kept) g c h r n (roomOf x) f)
 
         -- a group had no room
         pub room-call-full : (s : GroupId) (i : ℕ) → x ≡ Full s i → Calling xs xs call expected (RoomAnswer.NoRoom s i)

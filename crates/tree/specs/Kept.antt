@@ -1,21 +1,38 @@
--- The invariant of the words: they stand for a well-formed tree, and the running sums are what the definitions say.
--- Assumes nothing.
+-- The invariant of the words: they stand for a well-formed tree, the running sums are what the definitions say, and the words
+-- that stand for nothing are 0. Assumes nothing.
 use Prim.Native.Nat.{ℕ}
 use mathlib.Core.Bool.{true}
 use mathlib.Core.List.{List}
 use mathlib.Core.Path.{_≡_}
 use lib.ListN.{length}
-use Rattle.model.specs.Tree.{lives, cores, places}
-use Rattle.model.specs.Hierarchy.{amount}
+use Rattle.model.specs.Functions.{weigh}
+use Rattle.model.specs.Sizes.{groups}
+use Rattle.model.specs.Tree.{Tree, Core, Place, lives, cores, places}
+use Rattle.model.specs.Hierarchy.{held, amount}
 use Rattle.model.specs.Effects.{fresh}
 use Rattle.model.specs.WellFormed.{WellFormed}
-use Rattle.model.specs.declared.Resource.{Resource}
-use Rattle.tree.specs.Layout.{words, view, sumIn}
+use Rattle.tree.specs.Layout.{words, view, sumIn, Spare}
+use Rattle.tree.specs.declared.sum.Counter.{Counter}
+use Rattle.tree.specs.declared.sum.Counter.the-variants.{Of, Groups}
+
+-- the live groups inside a group
+unfoldable pub groupsInside : (ℕ → Core) → ℕ → ℕ
+groupsInside cs a = held (λ g. cs g .parent) groups (λ g. weigh (cs g .live) 1) (λ g. g) a
+
+-- what a counter counts inside a group
+abbrev pub countOf : (ℕ → Core) → (ℕ → Place) → Counter → ℕ → ℕ
+countOf cs ps (Of r) = amount cs ps r
+countOf cs ps Groups = groupsInside cs
+
+-- every running sum is what its counter counts, and 0 for a number that is not live
+abbrev pub Summed : List ℕ → Tree → Type 0
+Summed xs t = (c : Counter) (g : ℕ) → sumIn xs c g ≡ countOf (cores t) (places t) c g
 
 pub record Kept (xs : List ℕ) : Type 0 where
   pub long : length xs ≡ words
   pub formed : WellFormed (view xs)
-  pub sums : (r : Resource) (g : ℕ) → lives (view xs) g ≡ true → sumIn xs r g ≡ amount (cores (view xs)) (places (view xs)) r g
+  pub sums : Summed xs (view xs)
+  pub spare : Spare xs
 
 -- words with a live group
 pub record KeptAt (xs : List ℕ) (g : ℕ) : Type 0 where

@@ -23,7 +23,7 @@ returns c =
     let f = c .before .before in
     let s = f .before .before in
     c .set-sum .ensures
-    ∙ ap (λ x. put (s .args .t .now) (s .args .g .0) (sumField (s .args .r)) (x + s .args .more - s .args .less)) (f .sum .ensures)
+    ∙ ap (λ x. put (s .args .t .now) (s .args .g .0) (sumField (s .args .c)) (x + s .args .more - s .args .less)) (f .sum .ensures)
 
 pub adjust-spec : {M : Type 1} → statement M
 adjust-spec = tie.close (tie.spec sum-requires add-next sub-next set-sum-requires returns)

@@ -8,10 +8,10 @@ use Rattle.tree.proofs.counter.adjust_up.Statement.{statement}
 use Rattle.tree.proofs.counter.adjust_up.Tie as tie
 
 abbrev Inv-loop : tie.InvT-loop
-Inv-loop t₀ r more less here₀ t here = Rising t₀ r here₀ more less t here
+Inv-loop t₀ c more less here₀ t here = Rising t₀ c here₀ more less t here
 
 abbrev μ-loop : tie.MeasureT-loop
-μ-loop t₀ r more less here₀ t here = depths (view t₀) here
+μ-loop t₀ c more less here₀ t here = depths (view t₀) here
 
 loop-holds : tie.Need-loop-holds Inv-loop μ-loop
 loop-holds c = rising-start _ _ _ _ _ (c .pre)

@@ -1,9 +1,9 @@
--- `tree::group::set_sum` meets its contract. Assumes nothing.
+-- `tree::sum::set_sum` meets its contract. Assumes nothing.
 use mathlib.Core.Path.{_∙_}
 use Rattle.tree.proofs.LayoutLaws.{put-eq}
 use borrow.Author.Needs.{needs}
-use Rattle.tree.proofs.group.set_sum.Statement.{statement}
-use Rattle.tree.proofs.group.set_sum.Tie as tie
+use Rattle.tree.proofs.sum.set_sum.Statement.{statement}
+use Rattle.tree.proofs.sum.set_sum.Tie as tie
 
 sum-field-requires : tie.Need-sum-field-requires
 sum-field-requires c κs = search needs

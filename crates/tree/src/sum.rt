@@ -1,0 +1,50 @@
+// The running sums in a group's row: what is counted inside the group, as Linux's page counters count pages up the hierarchy.
+ghost use mathlib.Core.Path.{_≡_};
+ghost use Prim.Native.Nat.{_<_};
+ghost use Rattle.model.specs.Sizes.{groups};
+ghost use Rattle.tree.specs.Layout.{row, put, sumIn, sumField};
+use super::layout::FRONT;
+use super::layout::ROW;
+use super::layout::Tree;
+use super::row::GROUP_SUM;
+use super::row::PAGE_SUM;
+use super::row::PROCESS_SUM;
+use super::row::set_word;
+use model::GroupId;
+use model::Resource;
+
+// What is counted: more than limits count, so not a resource.
+pub enum Counter {
+    // what a limit counts
+    Of(Resource),
+    // the live groups, the group itself among them
+    Groups,
+}
+
+fn sum_field(c: Counter) -> usize
+    ensures { λ k. ⌜ (k ≡ sumField c) × (k < row) ⌝ }
+{
+    match c {
+        Counter::Of(r) => match r {
+            Resource::Pages => PAGE_SUM,
+            Resource::Processes => PROCESS_SUM,
+        },
+        Counter::Groups => GROUP_SUM,
+    }
+}
+
+// What stands inside a group.
+pub fn sum(t: &Tree, g: GroupId, c: Counter) -> u64
+    requires { ⌜ g .0 < groups ⌝ }
+    ensures { λ n. ⌜ n ≡ sumIn (now (t .entry)) c (g .0) ⌝ }
+{
+    let i = FRONT + g.0 as usize * ROW + sum_field(c);
+    t[i]
+}
+
+pub fn set_sum(t: &mut Tree, g: GroupId, c: Counter, n: u64)
+    requires { ⌜ g .0 < groups ⌝ }
+    ensures { λ _. ⌜ now (t .exit) ≡ put (now (t .entry)) (g .0) (sumField c) n ⌝ }
+{
+    set_word(t, g.0, sum_field(c), n);
+}
