@@ -1,17 +1,16 @@
 -- Own pages and running sums changed together: after n pages more and m less in one group the sums above it are the usage.
 -- Once for what comes and what goes. Assumes nothing.
-use Prim.Native.Nat.{ℕ, _+_, _-_, _≤_, _<_}
+use Prim.Native.Nat.{ℕ, _+_, _-_, _^_, _≤_, _<_}
 use native.Mathlib.Omega.{arith}
-use mathlib.Core.Bool.{Bool, true}
+use mathlib.Core.Bool.{Bool}
 use mathlib.Core.List.{List}
 use mathlib.Core.Path.{_≡_, refl, ap, sym, _∙_}
 use Rattle.model.specs.Functions.{upd, weigh}
 use Rattle.model.specs.Sizes.{groups, largestCharge}
-use Rattle.model.specs.Tree.{Core, Group, withOwn, cores, lives, parents, places}
-use Rattle.model.specs.Hierarchy.{inside, usage, amount}
+use Rattle.model.specs.Tree.{Core, Group, withOwn, withCore, cores, parents, places}
+use Rattle.model.specs.Hierarchy.{inside, usage}
 use Rattle.model.specs.Calls.{Call, verdict}
 use Rattle.model.specs.Effects.{effect}
-use Rattle.model.specs.declared.Resource.{Resource}
 use Rattle.model.specs.declared.Resource.the-variants.{Pages, Processes}
 use Rattle.model.specs.declared.Answer.the-variants.{Done}
 use Rattle.model.proofs.FunctionLaws.{upd-keeps, upd-map}
@@ -19,10 +18,13 @@ use Rattle.model.proofs.AmountLaws.{usage-after-adjust, population-same, own-wi
 use Rattle.tree.specs.Layout.{view, sumIn}
 use Rattle.tree.specs.Changes.{Wrote, Adjusted, ownSet}
 use Rattle.tree.specs.Counters.{Adjustable}
-use Rattle.tree.specs.Kept.{Kept}
+use Rattle.tree.specs.Kept.{countOf, Kept}
 use Rattle.tree.specs.Calling.{Applied}
+use Rattle.tree.specs.declared.sum.Counter.{Counter}
+use Rattle.tree.specs.declared.sum.Counter.the-variants.{Of, Groups}
 use Rattle.tree.proofs.KeptLaws.{own-small, adjustable}
-use Rattle.tree.proofs.AdjustLaws.{pages-apart}
+use Rattle.tree.proofs.AdjustLaws.{counters-apart}
+use Rattle.tree.proofs.CountLaws.{groups-same}
 use Rattle.tree.proofs.RoomCallLaws.{sum-after-adjust}
 use Rattle.tree.proofs.CallLaws.{applied-as}
 use Rattle.accounting.specs.Pages.{pagesSet, PagesAdjustable, PagesAdjusted}
@@ -31,48 +33,51 @@ module _ (xs : List ℕ) (g n m : ℕ) (p : PagesAdjustable xs g n m) where
   pub group-low : g < groups
   group-low = p .home .kept .formed .sound .range g (p .home .live)
 
-  pub own-fits : view xs .group g .core .own + n < 18446744073709551616
+  pub own-fits : view xs .group g .core .own + n < 2 ^ 64
   own-fits = omega (arith, own-small xs (p .home .kept) g (p .home .live), p .few)
 
-  pub sums-adjustable : (i j : ℕ) → i ≤ largestCharge → j ≤ view xs .group g .core .own → Adjustable xs Pages g i j
+  pub sums-adjustable : (i j : ℕ) → i ≤ largestCharge → j ≤ view xs .group g .core .own → Adjustable xs (Of Pages) g i j
   sums-adjustable i j few enough =
-      adjustable xs (p .home .kept) g (p .home .live) Pages i j few
+      adjustable xs (p .home .kept) g (p .home .live) (Of Pages) i j few
       (λ a on. omega (arith, own-within-usage (cores (view xs)) a g group-low (p .home .live) on))
 
   -- the sums first, then the own pages
-  module _ (ys zs : List ℕ) (v : ℕ) (adjusted : Adjusted xs ys Pages g n m) (wrote : Wrote ys zs (ownSet (view ys) g v))
+  module _ (ys zs : List ℕ) (v : ℕ) (adjusted : Adjusted xs ys (Of Pages) g n m) (wrote : Wrote ys zs (ownSet (view ys) g v))
       (e : v ≡ view xs .group g .core .own + n - m) where
     pages-tree : view zs ≡ pagesSet (view xs) g n m
     pages-tree = wrote .tree ∙ rw e (ap (λ u. ownSet u g (view xs .group g .core .own + n - m)) (adjusted .tree))
 
-    sums-after : (r : Resource) (a : ℕ) → lives (view xs) a ≡ true → sumIn zs r a ≡ amount (cores (pagesSet (view xs) g n m)) (places (view xs)) r a
-    sums-after Pages a l =
+    kept-by : {A : Type 0} (F : Group → A) → F (withCore (withOwn (view xs .group g .core .own + n - m) (view xs .group g .core)) (view xs .group g)) ≡ F (view xs .group g)
+        → (a : ℕ) → F (pagesSet (view xs) g n m .group a) ≡ F (view xs .group a)
+    kept-by F e = upd-keeps F (view xs .group) g _ e
+
+    sums-after : (c : Counter) (a : ℕ) → sumIn zs c a ≡ countOf (cores (pagesSet (view xs) g n m)) (places (view xs)) c a
+    sums-after (Of Pages) a =
         let s : ℕ → Core = cores (view xs) in
         let after : ℕ → Core = upd s g (withOwn (s g .own + n - m) (s g)) in
         let b : Bool = inside (parents (view xs)) a g in
-        let u : usage after a + weigh b m ≡ sumIn xs Pages a + weigh b n =
-        rw (p .home .kept .sums Pages a l)
+        let u : usage after a + weigh b m ≡ sumIn xs (Of Pages) a + weigh b n =
+        rw (p .home .kept .sums (Of Pages) a)
         (usage-after-adjust s g n m group-low (p .home .live) (omega (arith, p .enough)) a) in
-        let same : sumIn ys Pages a ≡ usage after a =
-        omega (arith, sum-after-adjust xs ys g Pages n m adjusted (sums-adjustable n m (p .few) (p .enough) .enough) a, u) in
-        wrote .sums Pages a ∙ same
+        let same : sumIn ys (Of Pages) a ≡ usage after a =
+        omega (arith, sum-after-adjust xs ys g (Of Pages) n m adjusted (sums-adjustable n m (p .few) (p .enough) .enough) a, u) in
+        wrote .sums (Of Pages) a ∙ same
         ∙ ap (λ (k : ℕ → Core). usage k a) (sym (upd-map (λ (x : Group). x .core) (view xs .group) g _))
-    sums-after Processes a l =
-        wrote .sums Processes a ∙ adjusted .other Processes (λ e. pages-apart (sym e)) a
-        ∙ p .home .kept .sums Processes a l
-        ∙ sym (population-same (cores (view xs)) (cores (pagesSet (view xs) g n m)) (places (view xs))
-        (upd-keeps (λ (x : Group). x .core .parent) (view xs .group) g _ refl) a)
+    sums-after (Of Processes) a =
+        wrote .sums (Of Processes) a ∙ adjusted .other (Of Processes) (counters-apart (Of Processes) (Of Pages) (λ e. omega arith)) a
+        ∙ p .home .kept .sums (Of Processes) a
+        ∙ sym (population-same (cores (view xs)) (cores (pagesSet (view xs) g n m)) (places (view xs)) (kept-by (λ x. x .core .parent) refl) a)
+    sums-after Groups a =
+        wrote .sums Groups a ∙ adjusted .other Groups (counters-apart Groups (Of Pages) (λ e. omega arith)) a
+        ∙ p .home .kept .sums Groups a
+        ∙ sym (groups-same (cores (view xs)) (cores (pagesSet (view xs) g n m)) (kept-by (λ x. x .core .parent) refl) (kept-by (λ x. x .core .live) refl) a)
 
     pub pages-adjusted : PagesAdjusted xs zs g n m
     pages-adjusted =
-        record {
-          long = wrote .long;
-          tree = pages-tree;
-          sums = λ r a l. sums-after r a (sym (upd-keeps (λ (x : Group). x .core .live) (view xs .group) g _ refl a) ∙ l);
-        }
+        record { long = wrote .long; tree = pages-tree; sums = sums-after; spare = wrote .spare (adjusted .spare (p .home .kept .spare)) }
 
 -- An accepted call whose effect is such a change.
 pub applied-pages : (xs ys : List ℕ) (c : Call) (g n m : ℕ) → Kept xs → verdict (view xs) c ≡ Done → PagesAdjusted xs ys g n m
     → effect (view xs) c ≡ pagesSet (view xs) g n m → Applied xs ys c
 applied-pages xs ys c g n m k v p e =
-    applied-as xs k c v ys (pagesSet (view xs) g n m) e (p .long) (p .tree) (p .sums)
+    applied-as xs k c v ys (pagesSet (view xs) g n m) e p

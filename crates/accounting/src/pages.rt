@@ -6,6 +6,7 @@ use tree::counter::adjust_up;
 use tree::group::own;
 use tree::group::set_own;
 use tree::layout::Tree;
+use tree::sum::Counter;
 
 // The pages of one charge or release are at most this.
 pub const LARGEST_CHARGE: u64 = 1048576;
@@ -17,6 +18,6 @@ pub fn adjust_pages(tree: &mut Tree, group: GroupId, more: u64, less: u64)
 {
     let was = own(tree, group);
     let next = was + more - less;
-    adjust_up(tree, group, Resource::Pages, more, less);
+    adjust_up(tree, group, Counter::Of(Resource::Pages), more, less);
     set_own(tree, group, next);
 }

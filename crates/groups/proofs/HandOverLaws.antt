@@ -1,14 +1,14 @@
--- What an accepted hand over finds, and that its store gives the definitions' tree: no amount asks for an owner.
+-- What an accepted hand over finds, and that its store gives the definitions' tree: nothing that is counted asks for an owner.
 -- Assumes nothing.
 use Prim.Native.Nat.{ℕ, _<_}
 use native.Mathlib.Omega.{arith}
 use mathlib.Core.List.{List}
-use mathlib.Core.Path.{_≡_, refl, ap, sym, _∙_, fun-ext}
+use mathlib.Core.Path.{_≡_, refl}
 use borrow.Author.Tests.{leb-false}
 use Rattle.model.specs.Sizes.{groups}
 use Rattle.model.specs.Checks.{Pass}
-use Rattle.model.specs.Tree.{Tree, Group, withOwner, cores, places}
-use Rattle.model.specs.Hierarchy.{amount, factsOf}
+use Rattle.model.specs.Tree.{Tree, Group, withOwner}
+use Rattle.model.specs.Hierarchy.{factsOf}
 use Rattle.model.specs.Calls.{handOver, checks, verdict}
 use Rattle.model.specs.Effects.{effect}
 use Rattle.model.specs.declared.Answer.the-variants.{Done}
@@ -30,8 +30,11 @@ pub applied-hand-over : (xs : List ℕ) (k : Kept xs) (user g owner : ℕ) (v : 
     → Wrote xs ys (ownerSet (view xs) g owner) → Applied xs ys (handOver user g owner)
 unfolding effect
 applied-hand-over xs k user g owner v ys w =
-    let same : cores (ownerSet (view xs) g owner) ≡ cores (view xs) =
-    fun-ext (upd-keeps (λ (x : Group). x .core) (view xs .group) g (withOwner owner (view xs .group g)) refl) in
+    let after : Group = withOwner owner (view xs .group g) in
     applied-wrote xs k (handOver user g owner) v ys w
-    (λ h l. ap (λ f. f h .live) (sym same) ∙ l)
-    (λ r h. ap (λ s. amount s (places (view xs)) r h) same)
+    (record {
+      parent = upd-keeps (λ (x : Group). x .core .parent) (view xs .group) g after refl;
+      live = upd-keeps (λ (x : Group). x .core .live) (view xs .group) g after refl;
+      own = upd-keeps (λ (x : Group). x .core .own) (view xs .group) g after refl;
+    })
+    refl

@@ -1,4 +1,5 @@
 pub mod ClearedLaws
 pub mod MakeLaws
+pub mod LeafLaws
 pub mod RemoveLaws
 pub mod HandOverLaws

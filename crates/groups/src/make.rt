@@ -1,4 +1,4 @@
-// Document 01, "Make". Checks, then one row.
+// Document 01, "Make". Checks, then one row; the groups above count one more.
 ghost use mathlib.Core.Path.{_≡_};
 ghost use Rattle.model.specs.Calls.{make, verdict};
 ghost use Rattle.tree.specs.Layout.{view};
@@ -7,6 +7,7 @@ ghost use Rattle.tree.specs.Calling.{Calling};
 use model::Answer;
 use model::Errno;
 use model::GroupId;
+use tree::counter::adjust_up;
 use tree::group::depth;
 use tree::group::is_live;
 use tree::group::put_group;
@@ -14,6 +15,7 @@ use tree::layout::DEEPEST;
 use tree::layout::GROUPS;
 use tree::layout::Tree;
 use tree::rule::may_write;
+use tree::sum::Counter;
 
 // The checks, in the paper's order.
 fn vet_make(t: &Tree, user: u32, above: GroupId, new: GroupId) -> Answer
@@ -52,6 +54,7 @@ pub fn make(tree: &mut Tree, user: u32, parent: GroupId, new: GroupId) -> Answer
         return v;
     };
     let deep = depth(tree, parent) + 1;
+    adjust_up(tree, parent, Counter::Groups, 1, 0);
     put_group(tree, new, parent, deep, user);
     Answer::Done
 }

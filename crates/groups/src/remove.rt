@@ -1,4 +1,4 @@
-// Document 01, "Remove". Checks, of which one passes over all groups, then two stores.
+// Document 01, "Remove". The group's own row says whether anything is in it; the groups above count one less.
 ghost use mathlib.Core.Bool.{false};
 ghost use mathlib.Core.Path.{_≡_};
 ghost use Rattle.model.specs.Rules.{hasChild, hasProcess};
@@ -10,23 +10,32 @@ use model::Answer;
 use model::Errno;
 use model::GroupId;
 use model::Resource;
+use tree::counter::adjust_up;
 use tree::group::clear_group;
 use tree::group::is_live;
 use tree::group::own;
 use tree::group::parent;
 use tree::group::set_own;
-use tree::group::sum;
 use tree::layout::GROUPS;
 use tree::layout::Tree;
-use tree::rule::has_child;
 use tree::rule::may_write;
+use tree::sum::Counter;
+use tree::sum::sum;
+
+// Whether a group has a live child: it is not alone inside itself.
+fn has_child(t: &Tree, g: GroupId) -> bool
+    requires { ⌜ KeptAt (now t) (g .0) ⌝ }
+    ensures { λ r. ⌜ r ≡ hasChild (view (now (t .entry))) (g .0) ⌝ }
+{
+    sum(t, g, Counter::Groups) != 1
+}
 
 // Whether a live process stands in a group that has no live child: whatever is inside stands in it, and is counted there.
 fn is_populated(t: &Tree, g: GroupId) -> bool
     requires { ⌜ KeptAt (now t) (g .0) × (hasChild (view (now t)) (g .0) ≡ false) ⌝ }
     ensures { λ r. ⌜ r ≡ hasProcess (view (now (t .entry))) (g .0) ⌝ }
 {
-    sum(t, g, Resource::Processes) != 0
+    sum(t, g, Counter::Of(Resource::Processes)) != 0
 }
 
 // The checks, in the paper's order. The root's parent is the root itself, whose owner is user 0.
@@ -55,7 +64,7 @@ fn vet_remove(t: &Tree, user: u32, g: GroupId) -> Answer
     Answer::Done
 }
 
-// The group is no longer live, and its own pages pass to its parent. No running sum above it changes.
+// The group is no longer live, and its own pages pass to its parent: of the sums above it only that of live groups changes.
 // Einval: a number out of range. Enoent: not live. Eacces: the user may not write the parent. Ebusy: the root, or a live
 // child or a live process in the group.
 pub fn remove(tree: &mut Tree, user: u32, group: GroupId) -> Answer
@@ -69,6 +78,7 @@ pub fn remove(tree: &mut Tree, user: u32, group: GroupId) -> Answer
     let above = parent(tree, group);
     let held = own(tree, above);
     let pages = held + own(tree, group);
+    adjust_up(tree, above, Counter::Groups, 0, 1);
     set_own(tree, above, pages);
     clear_group(tree, group);
     Answer::Done

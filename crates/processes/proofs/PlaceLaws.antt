@@ -4,29 +4,30 @@ use Prim.Native.Nat.{ℕ, _+_, _-_, _≤_, _<_}
 use native.Mathlib.Omega.{arith}
 use mathlib.Core.Bool.{Bool, true, false}
 use mathlib.Core.List.{List}
+use mathlib.Core.Logic.{_≢_}
 use mathlib.Core.Path.{_≡_, ap, sym, _∙_, subst}
 use lib.ListN.{length}
 use Rattle.model.specs.Functions.{pick, upd, weigh}
 use Rattle.model.specs.Sizes.{processes}
 use Rattle.model.specs.Tree.{Tree, Place, nowhere, at, Process, noProcess, groupOf, isLive, lives, cores, places, parents, depths, atProcess}
-use Rattle.model.specs.Hierarchy.{inside, headcount, population, amount}
+use Rattle.model.specs.Hierarchy.{inside, headcount, population}
 use Rattle.model.specs.Rules.{processGroup}
 use Rattle.model.specs.WellFormed.{Sound}
 use Rattle.model.specs.Calls.{Call, verdict}
 use Rattle.model.specs.Effects.{effect}
-use Rattle.model.specs.declared.Resource.{Resource}
 use Rattle.model.specs.declared.Resource.the-variants.{Pages, Processes}
 use Rattle.model.specs.declared.Answer.the-variants.{Done}
 use Rattle.model.proofs.FunctionLaws.{upd-map, weigh-yes, weigh-zero}
-use Rattle.model.proofs.ChainLaws.{inside-live}
 use Rattle.model.proofs.AmountLaws.{place-live, place-free, population-change}
 use Rattle.model.proofs.ProcessLaws.{process-range}
-use Rattle.tree.specs.Layout.{words, view, sumIn}
+use Rattle.tree.specs.Layout.{words, view, sumIn, Spare}
 use Rattle.tree.specs.Changes.{Wrote, Adjusted}
 use Rattle.tree.specs.Counters.{Adjustable}
-use Rattle.tree.specs.Kept.{Kept}
+use Rattle.tree.specs.Kept.{countOf, Kept}
 use Rattle.tree.specs.Calling.{Applied}
-use Rattle.tree.proofs.AdjustLaws.{pages-apart}
+use Rattle.tree.specs.declared.sum.Counter.{Counter}
+use Rattle.tree.specs.declared.sum.Counter.the-variants.{Of, Groups}
+use Rattle.tree.proofs.AdjustLaws.{counters-apart}
 use Rattle.tree.proofs.KeptLaws.{adjustable}
 use Rattle.tree.proofs.CallLaws.{applied-as}
 use Rattle.tree.proofs.RoomCallLaws.{sum-after-adjust}
@@ -48,11 +49,12 @@ counted-within t p a low l i =
 pub record Recounted (xs ys : List ℕ) (from to : Place) : Type 0 where
   pub long : length ys ≡ words
   pub tree : view ys ≡ view xs
-  pub processes : (a : ℕ) → sumIn ys Processes a + counted (view xs) from a ≡ sumIn xs Processes a + counted (view xs) to a
-  pub pages : (a : ℕ) → sumIn ys Pages a ≡ sumIn xs Pages a
+  pub processes : (a : ℕ) → sumIn ys (Of Processes) a + counted (view xs) from a ≡ sumIn xs (Of Processes) a + counted (view xs) to a
+  pub other : (c : Counter) → c ≢ Of Processes → (a : ℕ) → sumIn ys c a ≡ sumIn xs c a
+  pub spare : Spare xs → Spare ys
 
 module _ (xs ys : List ℕ) (g : ℕ) where
-  pub recounted-more : Adjusted xs ys Processes g 1 0 → Recounted xs ys nowhere (at g)
+  pub recounted-more : Adjusted xs ys (Of Processes) g 1 0 → Recounted xs ys nowhere (at g)
   recounted-more d =
       record {
         long = d .long;
@@ -60,14 +62,15 @@ module _ (xs ys : List ℕ) (g : ℕ) where
         processes = λ a.
             omega (
               arith,
-              sum-after-adjust xs ys g Processes 1 0 d (λ b _. omega arith) a,
+              sum-after-adjust xs ys g (Of Processes) 1 0 d (λ b _. omega arith) a,
               weigh-zero (inside (parents (view xs)) a g),
               weigh-zero (inside (parents (view xs)) a 0),
             );
-        pages = d .other Pages pages-apart;
+        other = d .other;
+        spare = d .spare;
       }
 
-  pub recounted-less : ((a : ℕ) → inside (parents (view xs)) a g ≡ true → 1 ≤ sumIn xs Processes a) → Adjusted xs ys Processes g 0 1
+  pub recounted-less : ((a : ℕ) → inside (parents (view xs)) a g ≡ true → 1 ≤ sumIn xs (Of Processes) a) → Adjusted xs ys (Of Processes) g 0 1
       → Recounted xs ys (at g) nowhere
   recounted-less some d =
       record {
@@ -76,11 +79,12 @@ module _ (xs ys : List ℕ) (g : ℕ) where
         processes = λ a.
             omega (
               arith,
-              sum-after-adjust xs ys g Processes 0 1 d (λ b i. omega (arith, some b i)) a,
+              sum-after-adjust xs ys g (Of Processes) 0 1 d (λ b i. omega (arith, some b i)) a,
               weigh-zero (inside (parents (view xs)) a g),
               weigh-zero (inside (parents (view xs)) a 0),
             );
-        pages = d .other Pages pages-apart;
+        other = d .other;
+        spare = d .spare;
       }
 
 pub recounted-then : (xs ys zs : List ℕ) (from to : Place) → Recounted xs ys from nowhere → Recounted ys zs nowhere to → Recounted xs zs from to
@@ -97,7 +101,8 @@ recounted-then xs ys zs from to d e =
             weigh-zero (inside (parents (view xs)) a 0),
             weigh-zero (inside (parents (view ys)) a 0),
           );
-      pages = λ a. e .pages a ∙ d .pages a;
+      other = λ c ne a. e .other c ne a ∙ d .other c ne a;
+      spare = λ s. e .spare (d .spare s);
     }
 
 -- then the place is stored
@@ -108,28 +113,33 @@ module _ (xs ys zs : List ℕ) (k : Kept xs) (p : ℕ) (low : p < processes) (v 
         long = w .long;
         tree = w .tree ∙ ap (λ (t : Tree). atProcess t p v) (d .tree);
         sums = sums-after;
+        spare = w .spare (d .spare (k .spare));
       }
     where
-      sums-after : (r : Resource) (a : ℕ) → lives (view xs) a ≡ true
-          → sumIn zs r a ≡ amount (cores (view xs)) (places (atProcess (view xs) p v)) r a
-      sums-after Pages a l = w .sums Pages a ∙ d .pages a ∙ k .sums Pages a l
-      sums-after Processes a l =
-          let u : population (cores (view xs)) (upd (places (view xs)) p (v .place)) a ≡ sumIn ys Processes a =
+      -- sums that are not of processes are as before, and count nothing of a place
+      stays : (c : Counter) → c ≢ Of Processes → (a : ℕ) → sumIn zs c a ≡ countOf (cores (view xs)) (places (view xs)) c a
+      stays c ne a = w .sums c a ∙ d .other c ne a ∙ k .sums c a
+
+      sums-after : (c : Counter) (a : ℕ) → sumIn zs c a ≡ countOf (cores (view xs)) (places (atProcess (view xs) p v)) c a
+      sums-after (Of Pages) a = stays (Of Pages) (counters-apart (Of Pages) (Of Processes) (λ e. omega arith)) a
+      sums-after Groups a = stays Groups (counters-apart Groups (Of Processes) (λ e. omega arith)) a
+      sums-after (Of Processes) a =
+          let u : population (cores (view xs)) (upd (places (view xs)) p (v .place)) a ≡ sumIn ys (Of Processes) a =
           omega (
             arith,
             population-change (cores (view xs)) (places (view xs)) p (v .place) a low,
             d .processes a,
-            k .sums Processes a l,
+            k .sums (Of Processes) a,
           ) in
-          w .sums Processes a ∙ sym u
+          w .sums (Of Processes) a ∙ sym u
           ∙ ap (λ (pl : ℕ → Place). population (cores (view xs)) pl a) (sym (upd-map (λ (x : Process). x .place) (view xs .process) p v))
 
 -- A birth.
 module _ (xs : List ℕ) (p g : ℕ) (h : Vacant xs p g) where
-  pub enter-adjustable : (n : ℕ) → n ≤ 1 → Adjustable xs Processes g n 0
-  enter-adjustable n few = adjustable xs (h .home .kept) g (h .home .live) Processes n 0 (omega arith) (λ a i. omega arith)
+  pub enter-adjustable : (n : ℕ) → n ≤ 1 → Adjustable xs (Of Processes) g n 0
+  enter-adjustable n few = adjustable xs (h .home .kept) g (h .home .live) (Of Processes) n 0 (omega arith) (λ a i. omega arith)
 
-  pub entered : (ys zs : List ℕ) (user : ℕ) → Adjusted xs ys Processes g 1 0
+  pub entered : (ys zs : List ℕ) (user : ℕ) → Adjusted xs ys (Of Processes) g 1 0
       → Wrote ys zs (atProcess (view ys) p (record { place = at g; user = user })) → Seated xs zs p (record { place = at g; user = user })
   entered ys zs user d w =
       seated xs ys zs (h .home .kept) p (h .low) (record { place = at g; user = user })
@@ -144,14 +154,14 @@ module _ (xs : List ℕ) (p : ℕ) (h : Standing xs p) where
   standing-inside : (a : ℕ) → inside (parents (view xs)) a (processGroup (view xs) p) ≡ true → 1 ≤ population (cores (view xs)) (places (view xs)) a
   standing-inside a i = counted-within (view xs) p a standing-low (h .live) i
 
-  pub leave-adjustable : (g m : ℕ) → g ≡ processGroup (view xs) p → m ≤ 1 → Adjustable xs Processes g 0 m
+  pub leave-adjustable : (g m : ℕ) → g ≡ processGroup (view xs) p → m ≤ 1 → Adjustable xs (Of Processes) g 0 m
   leave-adjustable g m e few =
       rw e
-      (adjustable xs (h .home .kept) (processGroup (view xs) p) (h .home .live) Processes 0 m (omega arith)
+      (adjustable xs (h .home .kept) (processGroup (view xs) p) (h .home .live) (Of Processes) 0 m (omega arith)
       (λ a i. omega (arith, standing-inside a i)))
 
   -- without the process
-  left-out : (ys : List ℕ) (g : ℕ) → g ≡ processGroup (view xs) p → Adjusted xs ys Processes g 0 1
+  left-out : (ys : List ℕ) (g : ℕ) → g ≡ processGroup (view xs) p → Adjusted xs ys (Of Processes) g 0 1
       → Recounted xs ys (at (processGroup (view xs) p)) nowhere
   left-out ys g e d =
       let o = h .home in
@@ -159,11 +169,11 @@ module _ (xs : List ℕ) (p : ℕ) (h : Standing xs p) where
       (λ a i. omega (
         arith,
         standing-inside a i,
-        o .kept .sums Processes a (inside-live (o .kept .formed .sound) a (processGroup (view xs) p) (o .live) i),
+        o .kept .sums (Of Processes) a,
       ))
       (rw e at d)
 
-  pub exited : (ys zs : List ℕ) (g : ℕ) → g ≡ processGroup (view xs) p → Adjusted xs ys Processes g 0 1
+  pub exited : (ys zs : List ℕ) (g : ℕ) → g ≡ processGroup (view xs) p → Adjusted xs ys (Of Processes) g 0 1
       → Wrote ys zs (atProcess (view ys) p noProcess) → Seated xs zs p noProcess
   exited ys zs g e d w =
       seated xs ys zs (h .home .kept) p standing-low noProcess
@@ -175,10 +185,10 @@ not-more true s m = omega arith
 not-more false s m = omega arith
 
 module _ (xs : List ℕ) (p g : ℕ) (h : Moving xs p g) (ys : List ℕ) (source : ℕ) where
-  pub move-adjustable : (m n : ℕ) → Adjusted xs ys Processes source 0 m → n ≤ 1 → Adjustable ys Processes g n 0
+  pub move-adjustable : (m n : ℕ) → Adjusted xs ys (Of Processes) source 0 m → n ≤ 1 → Adjustable ys (Of Processes) g n 0
   move-adjustable m n d few =
       let up : (ℕ → ℕ) = parents (view xs) in
-      let was : Adjustable xs Processes g n 0 = adjustable xs (h .to .kept) g (h .to .live) Processes n 0 (omega arith) (λ a i. omega arith) in
+      let was : Adjustable xs (Of Processes) g n 0 = adjustable xs (h .to .kept) g (h .to .live) (Of Processes) n 0 (omega arith) (λ a i. omega arith) in
       record {
         long = d .long;
         sound = subst (λ (t : Tree). Sound (lives t) (parents t) (depths t)) (sym (d .tree)) (was .sound);
@@ -188,13 +198,13 @@ module _ (xs : List ℕ) (p g : ℕ) (h : Moving xs p g) (ys : List ℕ) (source
               arith,
               was .room a (subst (λ (t : Tree). inside (parents t) a g ≡ true) (d .tree) i),
               d .sums a,
-              not-more (inside up a source) (sumIn xs Processes a) m,
+              not-more (inside up a source) (sumIn xs (Of Processes) a) m,
             );
         enough = λ a i. omega arith;
       }
 
   pub relocated : (zs us : List ℕ) (user : ℕ) → user ≡ view xs .process p .user → source ≡ processGroup (view xs) p
-      → Adjusted xs ys Processes source 0 1 → Adjusted ys zs Processes g 1 0 → Wrote zs us (atProcess (view zs) p (record { place = at g; user = user }))
+      → Adjusted xs ys (Of Processes) source 0 1 → Adjusted ys zs (Of Processes) g 1 0 → Wrote zs us (atProcess (view zs) p (record { place = at g; user = user }))
       → Seated xs us p (record { place = at g; user = view xs .process p .user })
   relocated zs us user q f d e w =
       let out : Recounted xs ys (at (processGroup (view xs) p)) nowhere = left-out xs p (h .from) ys source f d in
@@ -206,4 +216,4 @@ module _ (xs : List ℕ) (p g : ℕ) (h : Moving xs p g) (ys : List ℕ) (source
 pub applied-seated : (xs ys : List ℕ) (c : Call) (p : ℕ) (v : Process) → Kept xs → verdict (view xs) c ≡ Done → Seated xs ys p v
     → effect (view xs) c ≡ atProcess (view xs) p v → Applied xs ys c
 applied-seated xs ys c p v k e d f =
-    applied-as xs k c e ys (atProcess (view xs) p v) f (d .long) (d .tree) (d .sums)
+    applied-as xs k c e ys (atProcess (view xs) p v) f d

@@ -4,14 +4,11 @@ use Prim.Native.Nat.{ℕ, _<_}
 use mathlib.Core.Bool.{true, false}
 use mathlib.Core.List.{List}
 use mathlib.Core.Path.{_≡_}
-use lib.ListN.{length}
 use Rattle.model.specs.Sizes.{processes}
-use Rattle.model.specs.Tree.{Process, atProcess, isLive, lives, cores, places}
-use Rattle.model.specs.Hierarchy.{amount}
+use Rattle.model.specs.Tree.{Process, atProcess, isLive, places}
 use Rattle.model.specs.Rules.{processGroup}
-use Rattle.model.specs.declared.Resource.{Resource}
-use Rattle.tree.specs.Layout.{words, view, sumIn}
-use Rattle.tree.specs.Kept.{KeptAt}
+use Rattle.tree.specs.Layout.{view}
+use Rattle.tree.specs.Kept.{Settled, KeptAt}
 
 -- a free number, for a process of g
 pub record Vacant (xs : List ℕ) (p g : ℕ) : Type 0 where
@@ -29,9 +26,6 @@ pub record Moving (xs : List ℕ) (p g : ℕ) : Type 0 where
   pub from : Standing xs p
   pub to : KeptAt xs g
 
--- the words stand for the tree where process p is v, and every running sum is its amount
-pub record Seated (xs ys : List ℕ) (p : ℕ) (v : Process) : Type 0 where
-  pub long : length ys ≡ words
-  pub tree : view ys ≡ atProcess (view xs) p v
-  pub sums : (r : Resource) (a : ℕ) → lives (view xs) a ≡ true
-      → sumIn ys r a ≡ amount (cores (view xs)) (places (atProcess (view xs) p v)) r a
+-- the words stand for the tree where process p is v
+abbrev pub Seated : List ℕ → List ℕ → ℕ → Process → Type 0
+Seated xs ys p v = Settled ys (atProcess (view xs) p v)

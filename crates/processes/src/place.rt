@@ -11,13 +11,14 @@ use tree::process::clear_process;
 use tree::process::process_group;
 use tree::process::process_user;
 use tree::process::put_process;
+use tree::sum::Counter;
 
 // A free number becomes a process of a group.
 pub fn enter(tree: &mut Tree, process: ProcessId, group: GroupId, user: u64)
     requires { ⌜ Vacant (now tree) (process .0) (group .0) ⌝ }
     ensures { λ _. ⌜ Seated (now (tree .entry)) (now (tree .exit)) (process .0) (record { place = at (group .0); user = user }) ⌝ }
 {
-    adjust_up(tree, group, Resource::Processes, 1, 0);
+    adjust_up(tree, group, Counter::Of(Resource::Processes), 1, 0);
     put_process(tree, process, group, user);
 }
 
@@ -27,7 +28,7 @@ pub fn leave(tree: &mut Tree, process: ProcessId)
     ensures { λ _. ⌜ Seated (now (tree .entry)) (now (tree .exit)) (process .0) noProcess ⌝ }
 {
     let group = process_group(tree, process);
-    adjust_up(tree, group, Resource::Processes, 0, 1);
+    adjust_up(tree, group, Counter::Of(Resource::Processes), 0, 1);
     clear_process(tree, process);
 }
 
@@ -38,7 +39,7 @@ pub fn relocate(tree: &mut Tree, process: ProcessId, target: GroupId)
 {
     let user = process_user(tree, process);
     let source = process_group(tree, process);
-    adjust_up(tree, source, Resource::Processes, 0, 1);
-    adjust_up(tree, target, Resource::Processes, 1, 0);
+    adjust_up(tree, source, Counter::Of(Resource::Processes), 0, 1);
+    adjust_up(tree, target, Counter::Of(Resource::Processes), 1, 0);
     put_process(tree, process, target, user);
 }

@@ -3,7 +3,6 @@
 use Prim.Native.Nat.{ℕ}
 use mathlib.Core.List.{List}
 use mathlib.Core.Path.{_≡_, refl, sym, _∙_, subst}
-use lib.ListN.{length}
 use Rattle.model.specs.Tree.{Tree, cores, places}
 use Rattle.model.specs.Calls.{Call, verdict}
 use Rattle.model.specs.Effects.{effect}
@@ -13,9 +12,9 @@ use Rattle.model.specs.declared.Answer.{Answer}
 use Rattle.model.specs.declared.Answer.the-variants.{Done, Refused}
 use Rattle.model.proofs.CheckLaws.{not-done}
 use Rattle.model.proofs.Steps.{step-accepted, step-refused, passed, well-formed-effect}
-use Rattle.tree.specs.Layout.{words, view, Spare}
+use Rattle.tree.specs.Layout.{view}
 use Rattle.tree.specs.Changes.{Wrote}
-use Rattle.tree.specs.Kept.{Summed, Kept}
+use Rattle.tree.specs.Kept.{Summed, Settled, Kept}
 use Rattle.tree.specs.Calling.{Calling, Applied}
 use Rattle.tree.proofs.CountLaws.{SameCores, count-same}
 
@@ -38,28 +37,32 @@ module _ (xs : List ℕ) (k : Kept xs) (c : Call) where
           same = λ e n. not-done e (sym n ∙ v);
         }
 
-    -- the words stand for the definitions' tree, the sums are what their counters count in it, and spare words are 0
-    pub applied : (ys : List ℕ) → length ys ≡ words → view ys ≡ effect (view xs) c → Summed ys (effect (view xs) c) → Spare ys → Applied xs ys c
-    applied ys l e s z =
+    -- the words stand for the definitions' tree
+    pub applied : (ys : List ℕ) → Settled ys (effect (view xs) c) → Applied xs ys c
+    applied ys s =
         record {
-          tree = e;
+          tree = s .tree;
           kept =
               record {
-                long = l;
-                formed = subst WellFormed (sym e) (well-formed-effect (view xs) c (k .formed) (passed (view xs) c v));
-                sums = subst (Summed ys) (sym e) s;
-                spare = z;
+                long = s .long;
+                formed = subst WellFormed (sym (s .tree)) (well-formed-effect (view xs) c (k .formed) (passed (view xs) c v));
+                sums = subst (Summed ys) (sym (s .tree)) (s .sums);
+                spare = s .spare;
               };
         }
 
     -- the same where the effect is known as u
-    pub applied-as : (ys : List ℕ) (u : Tree) → effect (view xs) c ≡ u → length ys ≡ words → view ys ≡ u → Summed ys u → Spare ys → Applied xs ys c
-    applied-as ys u f l e s z = applied ys l (e ∙ sym f) (subst (Summed ys) (sym f) s) z
+    pub applied-as : (ys : List ℕ) (u : Tree) → effect (view xs) c ≡ u → Settled ys u → Applied xs ys c
+    applied-as ys u f s = applied ys (subst (Settled ys) (sym f) s)
 
     -- stores that change no sum, for an effect that changes nothing that is counted
     pub applied-wrote : (ys : List ℕ) → Wrote xs ys (effect (view xs) c) → SameCores (cores (view xs)) (cores (effect (view xs) c))
         → places (effect (view xs) c) ≡ places (view xs) → Applied xs ys c
     applied-wrote ys w same still =
-        applied ys (w .long) (w .tree)
-        (λ d g. w .sums d g ∙ k .sums d g ∙ sym (count-same _ _ _ _ same still d g))
-        (w .spare (k .spare))
+        applied ys
+        (record {
+          long = w .long;
+          tree = w .tree;
+          sums = λ d g. w .sums d g ∙ k .sums d g ∙ sym (count-same _ _ _ _ same still d g);
+          spare = w .spare (k .spare);
+        })

@@ -1,6 +1,6 @@
 -- What the counters count, after each kind of change: amounts by the laws of `model`, and live groups as the usage of a tree in
 -- which each has one page. Assumes nothing.
-use Prim.Native.Nat.{ℕ, _+_, _-_, _≤_, _<_}
+use Prim.Native.Nat.{ℕ, suc, _+_, _-_, _≤_, _<_}
 use native.Mathlib.Omega.{arith}
 use mathlib.Core.Bool.{Bool, true, false, not}
 use mathlib.Core.Logic.{_≢_}
@@ -8,14 +8,15 @@ use mathlib.Core.Path.{_≡_, refl, ap, ap₂, sym, _∙_, fun-ext}
 use lib.Dec.{eqb}
 use borrow.Author.Tests.{eq-eqb, ne-eqb}
 use Rattle.model.specs.Functions.{upd, weigh, sum}
-use Rattle.model.specs.Sizes.{groups}
+use Rattle.model.specs.Sizes.{groups, deepest}
 use Rattle.model.specs.Tree.{Tree, Core, Place, at, noCore, newCore, withOwn, cores, lives, parents, places}
 use Rattle.model.specs.Hierarchy.{inside, ownPages, usage, amount}
 use Rattle.model.specs.WellFormed.{Sound, Placed, WellFormed}
 use Rattle.model.specs.declared.Resource.{Resource}
 use Rattle.model.specs.declared.Resource.the-variants.{Pages, Processes}
 use Rattle.model.proofs.FunctionLaws.{split, whether, clash, weigh-yes, weigh-no, weigh-zero, upd-same, upd-other, upd-map, upd-keeps}
-use Rattle.model.proofs.ChainLaws.{inside-after-remove}
+use Rattle.model.proofs.ChainLaws.{inside-self, inside-parent, inside-after-make, inside-after-remove}
+use Rattle.model.proofs.RuleLaws.{sound-after-make}
 use Rattle.model.proofs.AmountLaws.{usage-same, usage-after-charge, usage-after-release, own-within-usage, amount-same, amount-dead, amount-after-make, amount-after-remove}
 use Rattle.tree.specs.Kept.{groupsInside, countOf}
 use Rattle.tree.specs.declared.sum.Counter.{Counter}
@@ -56,7 +57,7 @@ module _ (s : ℕ → Core) (pl : ℕ → Place) (depth : ℕ → ℕ) (w : Soun
   group-counted a g l i = rw (as-usage s a) (own-within-usage (ones s) a g (w .range g l) l i)
 
   -- one group more inside each that it is inside
-  pub groups-after-make : (new p a : ℕ) → new < groups → s new .live ≡ false
+  groups-after-make : (new p a : ℕ) → new < groups → s new .live ≡ false
       → groupsInside (upd s new (newCore p)) a ≡ groupsInside s a + weigh (inside (upd (λ k. s k .parent) new p) a new) 1
   groups-after-make new p a low dead =
       let made : ℕ → Core = upd (ones s) new (newCore p) in
@@ -73,6 +74,34 @@ module _ (s : ℕ → Core) (pl : ℕ → Place) (depth : ℕ → ℕ) (w : Soun
       ∙ ap₂ (λ x up. x + weigh (inside up a new) 1)
       (amount-after-make (ones s) pl depth w q Pages new p a dead ∙ sym (as-usage s a))
       (upd-map (λ (c : Core). c .parent) (ones s) new (newCore p))
+
+  -- a group that is made is alone inside itself, and one more inside its parent and each group above
+  module _ (new p : ℕ) (low : new < groups) (lp : s p .live ≡ true) (dead : s new .live ≡ false) (room : depth p < deepest) where
+    after : Sound (upd (λ k. s k .live) new true) (upd (λ k. s k .parent) new p) (upd depth new (suc (depth p)))
+    after = sound-after-make w new p lp dead low room
+
+    live-after : upd (λ k. s k .live) new true new ≡ true
+    live-after = upd-same (λ k. s k .live) new true
+
+    pub groups-made : groupsInside (upd s new (newCore p)) new ≡ 1
+    groups-made =
+        omega (
+          arith,
+          groups-after-make new p new low dead,
+          count-dead Groups new dead,
+          weigh-yes (inside (upd (λ k. s k .parent) new p) new new) 1 (inside-self after new live-after),
+        )
+
+    pub groups-above-made : (a : ℕ) → a ≢ new
+        → groupsInside (upd s new (newCore p)) a ≡ groupsInside s a + weigh (inside (λ k. s k .parent) a p) 1
+    groups-above-made a ne =
+        let up : ℕ → ℕ = upd (λ k. s k .parent) new p in
+        let nonroot : new ≢ 0 = (λ e. clash (s 0 .live) (w .root) (rw e at dead)) in
+        groups-after-make new p a low dead
+        ∙ ap (λ b. groupsInside s a + weigh b 1)
+        (inside-parent after a new live-after nonroot ne
+        ∙ ap (inside up a) (upd-same (λ k. s k .parent) new p)
+        ∙ inside-after-make w new p dead a p lp)
 
   -- one group less inside each that it was inside
   module _ (g : ℕ) (lg : s g .live ≡ true) (nz : g ≢ 0) (nc : (c : ℕ) → s c .live ≡ true → c ≢ 0 → s c .parent ≢ g) (np : (p : ℕ) → pl p ≢ at g) where

@@ -28,6 +28,13 @@ countOf cs ps Groups = groupsInside cs
 abbrev pub Summed : List ℕ → Tree → Type 0
 Summed xs t = (c : Counter) (g : ℕ) → sumIn xs c g ≡ countOf (cores t) (places t) c g
 
+-- the words stand for t, with every sum and no other word
+pub record Settled (xs : List ℕ) (t : Tree) : Type 0 where
+  pub long : length xs ≡ words
+  pub tree : view xs ≡ t
+  pub sums : Summed xs t
+  pub spare : Spare xs
+
 pub record Kept (xs : List ℕ) : Type 0 where
   pub long : length xs ≡ words
   pub formed : WellFormed (view xs)

@@ -5,7 +5,7 @@ ghost use mathlib.Core.Bool.{_&&_};
 ghost use Rattle.model.specs.Sizes.{groups, processes};
 ghost use Rattle.model.specs.Tree.{cores, places, sets};
 ghost use Rattle.model.specs.Hierarchy.{on, childOf};
-ghost use Rattle.model.specs.Rules.{mayWrite, available, standsIn, hasChild, hasProcess, heldByChild};
+ghost use Rattle.model.specs.Rules.{mayWrite, available, standsIn, hasProcess, heldByChild};
 ghost use Rattle.tree.specs.Layout.{view};
 ghost use Rattle.tree.specs.Counters.{HasParent};
 use super::group::has;
@@ -67,21 +67,6 @@ pub fn is_child(t: &Tree, g: GroupId, k: GroupId) -> bool
     }
     let above = parent(t, k);
     above.0 == g.0
-}
-
-// Whether a group has a live child.
-pub fn has_child(t: &Tree, g: GroupId) -> bool
-    ensures { λ r. ⌜ r ≡ hasChild (view (now (t .entry))) (g .0) ⌝ }
-{
-    let mut left = GROUPS;
-    while 0 < left {
-        let k = left - 1;
-        if is_child(t, GroupId(g.0), GroupId(k)) {
-            return true;
-        }
-        left = k;
-    }
-    false
 }
 
 // Whether a live child of a group has a controller in its set.

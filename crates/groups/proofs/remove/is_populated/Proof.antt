@@ -4,7 +4,7 @@ use Prim.Native.Nat.{ℕ}
 use mathlib.Core.Bool.{not}
 use mathlib.Core.Path.{ap, _∙_}
 use lib.Dec.{eqb}
-use Rattle.groups.proofs.RemoveLaws.{populated-leaf}
+use Rattle.groups.proofs.LeafLaws.{populated-leaf}
 use Rattle.groups.proofs.remove.is_populated.Statement.{statement}
 use Rattle.groups.proofs.remove.is_populated.Tie as tie
 

@@ -40,7 +40,10 @@ unfolding verdict checks
 returns-4 c = search vets depth 12 fits 4000
 
 has-child-requires : tie.Need-has-child-requires
-has-child-requires c κs = search needs
+has-child-requires c κs =
+    let p = c .before .before .before .before in
+    let l = p .before .before in
+    record { kept = l .before .before .before .pre; live = tested _ _ _ (l .is-live .ensures) (not-false _ (p .before .if2 .left)) }
 
 -- 16: a live child
 returns-5 : tie.Need-returns-5
