@@ -106,7 +106,7 @@ module _ (xs : List ℕ) (g : ℕ) (gone : Controls) where
   pub reset-start : length xs ≡ words → Wrote xs xs (resetBelow (view xs) g gone 0)
   reset-start l =
       let same : (k : ℕ) → view xs .group k ≡ passed-if k (ltb k 0) = (λ k. sym (ap (passed-if k) (le-ltb k 0 (omega arith)))) in
-      record { long = l; tree = same-groups (view xs) same; sums = λ r h. refl }
+      record { long = l; tree = same-groups (view xs) same; sums = λ c h. refl; spare = λ s. s }
 
   pub reset-next : (ys zs : List ℕ) (k : ℕ) → Wrote xs ys (resetBelow (view xs) g gone k)
       → Wrote ys zs (changedAt (view ys) k (resetChild (view ys) g gone k))
@@ -116,7 +116,8 @@ module _ (xs : List ℕ) (g : ℕ) (gone : Controls) where
         long = q .long;
         tree =
             q .tree ∙ ap (λ (t : Tree). changedAt t k (resetChild t g gone k)) (p .tree) ∙ same-groups (view xs) one-more;
-        sums = λ r h. q .sums r h ∙ p .sums r h;
+        sums = λ c h. q .sums c h ∙ p .sums c h;
+        spare = λ s. q .spare (p .spare s);
       }
     where
       so-far : ℕ → Group
@@ -178,7 +179,8 @@ module _ (xs ys : List ℕ) (g : ℕ) (set : Flags)
         tree =
             q .tree ∙ ap (λ (t : Tree). childrenReset t g gone) (p .tree)
             ∙ same-groups (view xs) (λ k. ap (λ (c : Core). reset-by g gone k c (set-first k)) (core-kept k));
-        sums = λ r h. q .sums r h ∙ p .sums r h;
+        sums = λ c h. q .sums c h ∙ p .sums c h;
+        spare = λ s. q .spare (p .spare s);
       }
 
 pub ranged-kept : (xs : List ℕ) → Kept xs → Ranged xs

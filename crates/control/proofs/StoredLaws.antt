@@ -1,4 +1,4 @@
--- The stores of the two calls leave what the definitions say: neither changes an amount. Assumes nothing.
+-- The stores of the two calls leave what the definitions say: neither changes what is counted. Assumes nothing.
 use Prim.Native.Nat.{ℕ}
 use mathlib.Core.Bool.{true}
 use mathlib.Core.List.{List}
@@ -13,8 +13,8 @@ use Rattle.model.specs.declared.Answer.{Answer}
 use Rattle.model.specs.declared.Answer.the-variants.{Done, Refused}
 use Rattle.model.proofs.CheckLaws.{andThen, first-append}
 use Rattle.model.proofs.Steps.{passed}
-use Rattle.model.proofs.ControlPreservation.{live-after-control, amount-after-control}
-use Rattle.model.proofs.SettingPreservation.{part-after-setting, amount-after-setting}
+use Rattle.model.proofs.ControlPreservation.{part-kept}
+use Rattle.model.proofs.SettingPreservation.{part-after-setting}
 use Rattle.tree.specs.Layout.{view}
 use Rattle.tree.specs.Changes.{GroupRow, Wrote}
 use Rattle.tree.specs.Counters.{HasParent}
@@ -74,7 +74,12 @@ module _ (xs : List ℕ) (k : Kept xs) (user g : ℕ) (file line : List ℕ)
       call-done xs k (writeSetting user g file line) v ys _ _
       (applied-wrote xs k (writeSetting user g file line) v ys
       (wrote-as (ap (λ x. changedAt (view xs) g (written x)) setting-told) w)
-      (λ h l. sym (part-after-setting (view xs) g o (λ x. x .core .live) (λ _ _. refl) h) ∙ l) (amount-after-setting (view xs) g o))
+      (record {
+        parent = part-after-setting (view xs) g o (λ x. x .core .parent) (λ _ _. refl);
+        live = part-after-setting (view xs) g o (λ x. x .core .live) (λ _ _. refl);
+        own = part-after-setting (view xs) g o (λ x. x .core .own) (λ _ _. refl);
+      })
+      refl)
       (sym v)
 
 -- ---- a control line
@@ -100,5 +105,10 @@ module _ (xs : List ℕ) (k : Kept xs) (user g : ℕ) (line : List ℕ) (v : ver
       call-done xs k (writeControl user g line) v ys _ _
       (applied-wrote xs k (writeControl user g line) v ys
       (wrote-as (ap₂ (controlled (view xs) g) e f) w)
-      (λ h l. sym (ap (λ p. p h) (live-after-control (view xs) g new left)) ∙ l) (amount-after-control (view xs) g new left))
+      (record {
+        parent = λ h. ap (λ f. f h) (part-kept (view xs) g new left (λ x. x .core .parent) (λ _ _. refl) refl);
+        live = λ h. ap (λ f. f h) (part-kept (view xs) g new left (λ x. x .core .live) (λ _ _. refl) refl);
+        own = λ h. ap (λ f. f h) (part-kept (view xs) g new left (λ x. x .core .own) (λ _ _. refl) refl);
+      })
+      refl)
       (sym v)

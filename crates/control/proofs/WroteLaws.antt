@@ -33,7 +33,7 @@ module _ (xs : List ℕ) (k : ℕ) where
   pub wrote-none : length xs ≡ words → {v : Group} → view xs .group k ≡ v → Wrote xs xs (atGroup (view xs) k v)
   wrote-none l {v} e =
       let same : view xs .group ≡ upd (view xs .group) k v = sym (upd-id (view xs .group) k) ∙ ap (upd (view xs .group) k) e in
-      record { long = l; tree = ap (withGroups (view xs)) same; sums = λ r g. refl }
+      record { long = l; tree = ap (withGroups (view xs)) same; sums = λ c g. refl; spare = λ s. s }
 
   -- one store after another
   pub wrote-then : (ys zs : List ℕ) (v : Group) (f : Group → Group) → Wrote xs ys (atGroup (view xs) k v)
@@ -44,5 +44,6 @@ module _ (xs : List ℕ) (k : ℕ) where
       record {
         long = q .long;
         tree = q .tree ∙ ap (λ (t : Tree). changedAt t k f) (p .tree) ∙ ap (withGroups (view xs)) twice;
-        sums = λ r g. q .sums r g ∙ p .sums r g;
+        sums = λ c g. q .sums c g ∙ p .sums c g;
+        spare = λ s. q .spare (p .spare s);
       }

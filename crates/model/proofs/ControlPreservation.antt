@@ -58,7 +58,7 @@ module _ (t : Tree) (g : ℕ) (set gone : Controls) where
   part-controlled F e k =
       split (childOf g k (cores t k)) (λ y. ap F (reset-child t g gone k _ y) ∙ e _ _) (λ n. ap F (reset-other t g gone k _ n))
 
-  part-kept : {A : Type 0} (F : Group → A) → ((s : Settings) (v : Group) → F (withSettings s v) ≡ F v) → F (withSet set (t .group g)) ≡ F (t .group g)
+  pub part-kept : {A : Type 0} (F : Group → A) → ((s : Settings) (v : Group) → F (withSettings s v) ≡ F v) → F (withSet set (t .group g)) ≡ F (t .group g)
       → _≡_ {A = ℕ → A} (λ k. F (controlled t g set gone .group k)) (λ k. F (t .group k))
   part-kept F e f = fun-ext (λ k. part-controlled F e k ∙ upd-keeps F (t .group) g _ f k)
 

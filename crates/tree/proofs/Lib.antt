@@ -12,3 +12,4 @@ pub mod AnsweredLaws
 pub mod TestLaws
 pub mod FreshLaws
 pub mod RoomCallLaws
+pub mod OneForm

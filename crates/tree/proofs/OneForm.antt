@@ -1,0 +1,161 @@
+-- One tree has one list of words: each word is read off the tree, or is a sum of it, or is 0. Assumes nothing.
+use Prim.Native.Nat.{ℕ, zero, suc, _+_, _-_, _*_, _/_, _%_, _≤_, _<_}
+use native.Mathlib.Omega.{arith}
+use native.Mathlib.Decide.{decLt}
+use mathlib.Core.Bool.{true, false}
+use mathlib.Core.List.{List}
+use mathlib.Core.Logic.{_≢_}
+use mathlib.Core.Path.{_≡_, ap, sym, _∙_}
+use lib.Dec.{eqb}
+use lib.ListN.{length, getD}
+use lib.Seq.{ext-getD}
+use borrow.Author.Tests.{eqb-true, eqb-false}
+use Rattle.model.specs.Sizes.{groups, processes}
+use Rattle.model.specs.Tree.{Tree, Group, Process, nowhere, at, cores, places}
+use Rattle.model.specs.declared.Resource.the-variants.{Pages, Processes}
+use Rattle.model.specs.declared.Limit.the-variants.{NoLimit, Figure}
+use Rattle.model.specs.declared.Controller.the-variants.{Cpu, Memory, Pids}
+use Rattle.model.proofs.FunctionLaws.{split, whether}
+use Rattle.tree.specs.Layout.{front, machineAt, row, words, word, sumField, sumIn, firstFlag, liveField, setField, firstWord, used, limitIn, placeIn, flagIn, groupRow, processIn, view, SpareRow}
+use Rattle.tree.specs.Kept.{countOf, Kept}
+use Rattle.tree.specs.OneForm.{OneForm}
+use Rattle.tree.specs.declared.sum.Counter.{Counter}
+use Rattle.tree.specs.declared.sum.Counter.the-variants.{Of, Groups}
+use Rattle.tree.proofs.RowLaws.{process-in}
+
+-- A meaning has one word.
+limit-word : (v w : ℕ) → limitIn v ≡ limitIn w → v ≡ w
+limit-word v w e =
+    split (eqb v 0)
+    (λ y. split (eqb w 0)
+    (λ z. eqb-true v 0 y ∙ sym (eqb-true w 0 z))
+    (λ o. none-figure (w - 1) (rw (y, o) at e)))
+    (λ n. split (eqb w 0)
+    (λ z. none-figure (v - 1) (sym (rw (n, z) at e)))
+    (λ o. let f : v - 1 ≡ w - 1 = figure-is (v - 1) (w - 1) (rw (n, o) at e) in
+    let p : v ≢ 0 = eqb-false v 0 n in
+    let q : w ≢ 0 = eqb-false w 0 o in
+    omega arith))
+  where
+    none-figure : (n : ℕ) → NoLimit ≡ Figure n → v ≡ w
+    none-figure n e = let z : _≡_ {A = ℕ} 0 1 = cc in absurd (omega arith)
+
+    figure-is : (m n : ℕ) → Figure m ≡ Figure n → m ≡ n
+    figure-is m n e = cc
+
+place-word : (v w : ℕ) → placeIn v ≡ placeIn w → v ≡ w
+place-word v w e =
+    split (eqb v 0)
+    (λ y. split (eqb w 0)
+    (λ z. eqb-true v 0 y ∙ sym (eqb-true w 0 z))
+    (λ o. nowhere-at (w - 1) (rw (y, o) at e)))
+    (λ n. split (eqb w 0)
+    (λ z. nowhere-at (v - 1) (sym (rw (n, z) at e)))
+    (λ o. let f : v - 1 ≡ w - 1 = at-is (v - 1) (w - 1) (rw (n, o) at e) in
+    let p : v ≢ 0 = eqb-false v 0 n in
+    let q : w ≢ 0 = eqb-false w 0 o in
+    omega arith))
+  where
+    nowhere-at : (n : ℕ) → nowhere ≡ at n → v ≡ w
+    nowhere-at n e = let z : _≡_ {A = ℕ} 0 1 = cc in absurd (omega arith)
+
+    at-is : (m n : ℕ) → at m ≡ at n → m ≡ n
+    at-is m n e = cc
+
+flag-word : (v w : ℕ) → v ≤ 1 → w ≤ 1 → flagIn v ≡ flagIn w → v ≡ w
+flag-word v w a b e =
+    split (eqb v 1)
+    (λ y. let z : eqb w 1 ≡ true = sym e ∙ y in eqb-true v 1 y ∙ sym (eqb-true w 1 z))
+    (λ n. let z : eqb w 1 ≡ false = sym e ∙ n in
+    let p : v ≢ 1 = eqb-false v 1 n in
+    let q : w ≢ 1 = eqb-false w 1 z in
+    omega arith)
+
+-- what holds at each place below n, the last first
+Below : (ℕ → Type 0) → ℕ → Type 0
+Below P zero = Unit {0}
+Below P (suc n) = P n × Below P n
+
+below : (P : ℕ → Type 0) (n : ℕ) → Below P n → (k : ℕ) → k < n → P k
+unfolding Below
+below P zero b k l = absurd (omega arith)
+below P (suc n) b k l = whether k n (λ e. rw e (b .0)) (λ ne. below P n (b .1) k (omega arith))
+
+-- a row is its group, its sums and zeros
+module _ (v w : ℕ → ℕ) (a : SpareRow v) (b : SpareRow w) (sums : (c : Counter) → v (sumField c) ≡ w (sumField c)) (e : groupRow v ≡ groupRow w) where
+  flag : (k : ℕ) → firstFlag ≤ k → k < firstWord → flagIn (v k) ≡ flagIn (w k) → v k ≡ w k
+  flag k from to f = flag-word (v k) (w k) (a .flags k from to) (b .flags k from to) f
+
+  places-same : Below (λ k. v k ≡ w k) used
+  unfolding Below
+  places-same =
+      (limit-word _ _ (ap (λ (g : Group). g .core .limit Processes) e),
+      (limit-word _ _ (ap (λ (g : Group). g .core .limit Pages) e),
+      (ap (λ (g : Group). g .core .own) e,
+      (ap (λ (g : Group). g .cpu .period) e,
+      (limit-word _ _ (ap (λ (g : Group). g .cpu .quota) e),
+      (ap (λ (g : Group). g .cpu .weight) e,
+      (ap (λ (g : Group). g .owner) e,
+      (ap (λ (g : Group). g .depth) e,
+      (ap (λ (g : Group). g .core .parent) e,
+      (flag (setField Pids) (omega arith) (omega arith) (ap (λ (g : Group). g .set Pids) e),
+      (flag (setField Memory) (omega arith) (omega arith) (ap (λ (g : Group). g .set Memory) e),
+      (flag (setField Cpu) (omega arith) (omega arith) (ap (λ (g : Group). g .set Cpu) e),
+      (flag liveField (omega arith) (omega arith) (ap (λ (g : Group). g .core .live) e),
+      (sums Groups,
+      (sums (Of Processes),
+      (sums (Of Pages),
+      tt))))))))))))))))
+
+  row-same : (k : ℕ) → k < row → v k ≡ w k
+  row-same k l =
+      elim (decLt k used) [
+        | yes h ↦ below (λ k. v k ≡ w k) used places-same k h
+        | no h ↦ a .rest k (omega arith) l ∙ sym (b .rest k (omega arith) l)
+      ]
+
+module _ (xs ys : List ℕ) (k : Kept xs) (j : Kept ys) (e : view xs ≡ view ys) where
+  sums-same : (g : ℕ) (c : Counter) → sumIn xs c g ≡ sumIn ys c g
+  sums-same g c = k .sums c g ∙ ap (λ (t : Tree). countOf (cores t) (places t) c g) e ∙ sym (j .sums c g)
+
+  words-same : (g i : ℕ) → g < groups → i < row → word xs g i ≡ word ys g i
+  words-same g i low l =
+      row-same (word xs g) (word ys g) (k .spare .rows g low) (j .spare .rows g low) (sums-same g) (ap (λ (t : Tree). t .group g) e) i l
+
+  process-same : (p : ℕ) → p < processes → (getD xs p 0 ≡ getD ys p 0) × (getD xs (processes + p) 0 ≡ getD ys (processes + p) 0)
+  process-same p l =
+      let f : processIn xs p ≡ processIn ys p = ap (λ (t : Tree). t .process p) e in
+      let g = sym (process-in xs p l) ∙ f ∙ process-in ys p l in
+      (place-word _ _ (ap (λ (x : Process). x .place) g), ap (λ (x : Process). x .user) g)
+
+  ahead-same : (i : ℕ) → i < front → getD xs i 0 ≡ getD ys i 0
+  ahead-same i l =
+      elim (decLt i processes) [
+        | yes h ↦ process-same i h .0
+        | no h ↦
+            elim (decLt i machineAt) [
+              | yes m ↦ rw (← back i (omega arith)) (process-same (i - processes) (omega arith) .1)
+              | no m ↦
+                  whether i machineAt
+                  (λ d. rw d (ap (λ (t : Tree). t .machine) e))
+                  (λ ne. k .spare .gap i (omega arith) l ∙ sym (j .spare .gap i (omega arith) l))
+            ]
+      ]
+    where
+      back : (i : ℕ) → processes ≤ i → processes + (i - processes) ≡ i
+      back i h = omega arith
+
+  rows-same : (i : ℕ) → front ≤ i → i < words → getD xs i 0 ≡ getD ys i 0
+  rows-same i from to =
+      let g : ℕ = (i - front) / row in
+      let c : ℕ = (i - front) % row in
+      let at : front + g * row + c ≡ i = omega arith in
+      rw (← at) (words-same g c (omega arith) (omega arith))
+
+  one : xs ≡ ys
+  one =
+      ext-getD 0 xs ys (k .long ∙ sym (j .long))
+      (λ i l. elim (decLt i front) [ yes h ↦ ahead-same i h | no h ↦ rows-same i (omega arith) (omega (arith, k .long)) ])
+
+pub one-form : OneForm
+one-form xs ys k j e = one xs ys k j e
