@@ -13,13 +13,14 @@ use Rattle.model.specs.Functions.{passes, mapped, orElse}
 use Rattle.model.specs.Checks.{errnoNumber, answerNumber, Pass}
 use Rattle.model.specs.Tree.{Tree, lives, parents}
 use Rattle.model.specs.Hierarchy.{chain, on, inside, factsOf}
+use Rattle.model.specs.Text.{linesOf, body}
 use Rattle.model.specs.Names.{settingName, fileNamed}
 use Rattle.model.specs.Control.{firstBadWord}
 use Rattle.model.specs.Settings.{settingController}
 use Rattle.model.specs.Rooms.{shortage}
 use Rattle.model.specs.Rules.{mayWrite, processGroup}
 use Rattle.model.specs.Files.{isPresent, contents}
-use Rattle.model.specs.Calls.{Call, read, writeSetting, fileText, checks, verdict}
+use Rattle.model.specs.Calls.{Call, read, fileText, checks, verdict}
 use Rattle.model.specs.Replies.{reply}
 use Rattle.model.specs.Book.{Entry}
 use Rattle.model.specs.Containment.{caller, OwnsInside, NoneAcross, GivesOutside}
@@ -28,6 +29,7 @@ use Rattle.model.specs.Demands as D
 use Rattle.model.specs.declared.Resource.{Resource}
 use Rattle.model.specs.declared.Setting.{Setting}
 use Rattle.model.specs.declared.File.the-variants.{Value}
+use Rattle.model.proofs.FunctionLaws.{all-map}
 use Rattle.model.proofs.ChainLaws.{inside-live}
 use Rattle.model.proofs.NameLaws.{fileNamed-fileName}
 use Rattle.model.proofs.Steps.{passed, group-lives}
@@ -40,7 +42,7 @@ use Rattle.tree.proofs.AnsweredLaws.{answered-number, answered-done, answered-e
 use Rattle.tree.proofs.WalkLaws.{member-at}
 use Rattle.shootspiral.specs.Interface.{groupWord, roomWords, Told}
 use Rattle.demands.specs.Runs.{Runs, start, next, Along}
-use Rattle.demands.specs.Demand2.{Exactly, RoomTold, BadPart, Demand2}
+use Rattle.demands.specs.Demand2.{Exactly, RoomTold, BadPart, Restores, ShownBack, Demand2}
 use Rattle.demands.proofs.Runs.{followed}
 use Rattle.demands.proofs.Texts.{delivered-file, delivered-line}
 
@@ -119,14 +121,18 @@ module _ {xs : List ℕ} {n k : ℕ} {buffer bytes : List ℕ} (g : ℕ) (s : Se
       let l : k ≡ length text = head-eq-of-cons-eq (d .size) ∙ ap length read-text in
       rw (l, d .bytes, read-text) (take-append-seam text (drop (length text) buffer))
 
-  written-back : {ys : List ℕ} {m : ℕ} (user : ℕ) → mayWrite t user (parents t g) ≡ true
-      → Answered xs ys (writeSetting user g (settingName s) (take k bytes)) m → (m ≡ 0) × (view ys ≡ t)
-  written-back {ys} {m} user may w =
-      let w′ : Answered xs ys (D.writtenBack t user g s) m = subst (λ (x : List ℕ). Answered xs ys (writeSetting user g (settingName s) x) m) delivered-text w in
-      let back = demands .second .writeBack t (kept .formed) in (
-        answered-number w′ ∙ ap answerNumber (back .accepted user g s read-lives read-on may),
-        w′ .tree ∙ back .same user g s read-lives read-on may,
-      )
+  -- what answers as a line that is shown, written back
+  restores : (user : ℕ) (line : List ℕ) → D.WrittenBack t user g s line → Restores xs user g s line
+  restores user line d ys m w = (answered-number w ∙ ap answerNumber (d .accepted), w .tree ∙ d .same)
+
+  shown-back : (user : ℕ) → mayWrite t user (parents t g) ≡ true → ShownBack xs user g s (take k bytes)
+  shown-back user may =
+      let back = demands .second .writeBack t (kept .formed) in
+      rw delivered-text
+      (record {
+        each = all-map _ _ (linesOf text) (λ line d. (restores user line (d .0), restores user (body line) (d .1))) (back .each user g s read-lives read-on may);
+        one = back .one g s;
+      })
 
 -- Containment along a run.
 contained-run : {xs ys : List ℕ} {es : List Entry} (user d : ℕ) → user ≢ 0 → (r : Runs xs es ys) → OwnsInside (view xs) user d
@@ -155,7 +161,7 @@ demand-2-of-the-code =
           (firstBadWord (now s), record { first = f; block = p .block; offset = p .offset; word = p .bytes ∙ f .own });
       shown = delivered-file;
       standing = delivered-line;
-      back = λ user g s k a z told may w. written-back g s k a z told user may w;
+      back = λ user g s k a z told may. shown-back g s k a z told user may;
       contained = contained-run;
       fresh = λ {m} {xs} z user d nz.
           subst (λ (t : Tree). OwnsInside t user d) (sym (z .tree)) (demands .fresh m .owns user d nz);

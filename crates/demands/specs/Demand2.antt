@@ -8,10 +8,11 @@ use mathlib.Core.Option.{none, some}
 use mathlib.Core.Path.{_≡_}
 use lib.ListN.{take}
 use denote.Ref.{RefT, ptr, now}
+use Rattle.model.specs.Functions.{All}
 use Rattle.model.specs.Checks.{errnoNumber, answerNumber, Says}
 use Rattle.model.specs.Tree.{Tree, lives, parents, depths}
 use Rattle.model.specs.Hierarchy.{factsOf}
-use Rattle.model.specs.Text.{body}
+use Rattle.model.specs.Text.{linesOf, body}
 use Rattle.model.specs.Names.{settingName}
 use Rattle.model.specs.Control.{Part, firstBadWord}
 use Rattle.model.specs.Words.{cut, FirstBad}
@@ -57,6 +58,16 @@ pub record BadPart (r s : RefT (List ℕ)) (p : Part) : Type 0 where
   pub offset : ptr r .1 ≡ ptr s .1 + p .start
   pub word : now r ≡ cut (body (now s)) (p .start) (p .size)
 
+-- a line that was written to a setting is answered 0, and leaves the tree that the words stand for
+abbrev pub Restores : List ℕ → ℕ → ℕ → Setting → List ℕ → Type 0
+Restores xs user g s line =
+    (ys : List ℕ) (m : ℕ) → Answered xs ys (writeSetting user g (settingName s) line) m → (m ≡ 0) × (view ys ≡ view xs)
+
+-- each line of a text, as it stands and without its newline; there is one
+pub record ShownBack (xs : List ℕ) (user g : ℕ) (s : Setting) (text : List ℕ) : Type 0 where
+  pub each : All (λ line. Restores xs user g s line × Restores xs user g s (body line)) (linesOf text)
+  pub one : linesOf text ≡ text ∷ []
+
 pub record Demand2 : Type 0 where
   pub exactly : {xs ys : List ℕ} {c : Call} {n : ℕ} → Answered xs ys c n → Exactly xs ys c n
   pub room : {xs ys : List ℕ} {c : Call} {k : ℕ} {told : List ℕ} (r : Resource) (n p : ℕ) → Asks r n p c → Kept xs
@@ -72,11 +83,11 @@ pub record Demand2 : Type 0 where
       → Told (reply (view xs) (membership p buffer)) told bytes → Delivered (membershipLine (view xs) p) buffer told bytes
   -- "What a settings file shows can be written back by whoever may write it, and changes nothing": the first k bytes of what a
   -- read delivered, on the words that it read
-  pub back : {xs ys : List ℕ} {n m k : ℕ} {buffer bytes : List ℕ} (user g : ℕ) (s : Setting) → Kept xs
+  pub back : {xs : List ℕ} {n k : ℕ} {buffer bytes : List ℕ} (user g : ℕ) (s : Setting) → Kept xs
       → Answered xs xs (read g (settingName s) buffer) n → n ≡ 0
       → Told (reply (view xs) (read g (settingName s) buffer)) (k ∷ []) bytes
       → mayWrite (view xs) user (parents (view xs) g) ≡ true
-      → Answered xs ys (writeSetting user g (settingName s) (take k bytes)) m → (m ≡ 0) × (view ys ≡ view xs)
+      → ShownBack xs user g s (take k bytes)
   -- "A user other than 0, all of whose groups lie inside one handed-over part, never moves a process across that part's edge": over
   -- every run in which nobody hands over to him a group outside it
   pub contained : {xs ys : List ℕ} {es : List Entry} (user d : ℕ) → user ≢ 0 → (r : Runs xs es ys)

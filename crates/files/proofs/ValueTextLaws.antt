@@ -3,17 +3,18 @@
 use Prim.Native.Nat.{ℕ, _+_, _^_, _≤_, _<_}
 use native.Mathlib.Omega.{arith}
 use mathlib.Core.Bool.{true}
-use mathlib.Core.List.{List, [], _∷_, _++_}
+use mathlib.Core.List.{List, [], _∷_, _++_, append-nil, append-assoc}
 use mathlib.Core.Logic.{_≢_}
 use mathlib.Core.Option.{some}
-use mathlib.Core.Path.{_≡_, refl, ap, sym, _∙_}
+use mathlib.Core.Path.{_≡_, ap, sym, _∙_}
 use lib.ListN.{length, length-append}
 use borrow.Author.Tests.{eq-eqb, ne-eqb}
+use Rattle.model.specs.Functions.{All}
 use Rattle.model.specs.Sizes.{largestMachine, longestLine}
-use Rattle.model.specs.Tree.{settingsAt}
+use Rattle.model.specs.Tree.{Settings, settingsAt}
 use Rattle.model.specs.Hierarchy.{factsOf}
-use Rattle.model.specs.Text.{bytes, newline, space, ended, decimal}
-use Rattle.model.specs.Settings.{SettingValue, bandwidth, largest, figureIn, inRange, toFigure, mapLimit, shown, limitText, valueText}
+use Rattle.model.specs.Text.{bytes, newline, space, ended, joined, decimal}
+use Rattle.model.specs.Settings.{SettingValue, weight, bandwidth, maximum, largest, figureIn, inRange, toFigure, mapLimit, shown, limitText, valueText, Allowed}
 use Rattle.model.specs.Files.{contents}
 use Rattle.model.specs.declared.Resource.{Resource}
 use Rattle.model.specs.declared.Resource.the-variants.{Pages, Processes}
@@ -23,11 +24,23 @@ use Rattle.model.specs.declared.Setting.{Setting}
 use Rattle.model.specs.declared.Setting.the-variants.{CpuWeight, CpuMax, Max}
 use Rattle.model.specs.declared.File.the-variants.{Events, Current, Value}
 use Rattle.model.proofs.DecimalLaws.{length-decimal}
-use Rattle.model.proofs.SettingLaws.{between-le}
-use Rattle.model.proofs.SettingTextLaws.{length-line}
+use Rattle.model.proofs.FigureLaws.{between-le}
+use Rattle.model.proofs.SettingTextLaws.{shown-short}
 use Rattle.tree.specs.Layout.{view, sumIn}
 use Rattle.tree.specs.Kept.{KeptAt}
 use Rattle.tree.proofs.KeptLaws.{sum-small}
+
+-- ---- the text of one value
+
+one-line : (v : SettingValue) → ended (valueText v) ≡ joined (ended (valueText v) ∷ [])
+unfolding joined
+one-line v = sym (append-nil (ended (valueText v)))
+
+pub length-ended : (l : List ℕ) → length (ended l) ≡ length l + 1
+length-ended l = length-append l (newline ∷ [])
+
+length-one : (v : SettingValue) → length (valueText v) < longestLine → length (joined (ended (valueText v) ∷ [])) ≤ longestLine
+length-one v h = rw (← one-line v) (omega (arith, length-ended (valueText v)))
 
 -- ---- figures
 
@@ -72,42 +85,48 @@ module _ (xs : List ℕ) (g : ℕ) (k : KeptAt xs g) where
 
   -- ---- settings
 
-  pub length-value : (s : Setting) → length (valueText (shown s (settingsAt (view xs) g))) + 1 ≤ longestLine
-  length-value s =
-      let v : SettingValue = shown s (settingsAt (view xs) g) in
-      let e = k .kept .formed .ranges .within s g (k .live) in
-      omega (arith, length-append (valueText v) (newline ∷ []), length-line v e)
+  abbrev settings : Settings
+  settings = settingsAt (view xs) g
+
+  allowed : Allowed settings
+  allowed = k .kept .formed .ranges .within g (k .live)
+
+  pub length-setting : (s : Setting) → length (contents (factsOf (view xs)) g (Value s)) ≤ longestLine
+  unfolding contents shown All
+  length-setting CpuWeight = length-one _ (shown-short CpuWeight settings (allowed .values CpuWeight) .0)
+  length-setting CpuMax = length-one _ (shown-short CpuMax settings (allowed .values CpuMax) .0)
+  length-setting (Max r) = length-one _ (shown-short (Max r) settings (allowed .values (Max r)) .0)
 
   pub limit-range : (r : Resource) (l : Limit) → l ≡ view xs .group g .core .limit r
       → figureIn 0 (largest r) (mapLimit (toFigure r) l) ≡ true
-  unfolding inRange shown
-  limit-range r l e = rw e (k .kept .formed .ranges .within (Max r) g (k .live))
+  unfolding inRange shown All
+  limit-range r l e = rw e (allowed .values (Max r) .0)
 
   pub weight-text : (n : ℕ) → n ≡ view xs .group g .cpu .weight
-      → decimal n ≡ valueText (shown CpuWeight (settingsAt (view xs) g))
-  unfolding shown valueText
-  weight-text n e = ap decimal e
+      → ended (decimal n) ≡ contents (factsOf (view xs)) g (Value CpuWeight)
+  unfolding contents shown valueText
+  weight-text n e = ap (λ (m : ℕ). ended (decimal m)) e ∙ one-line (weight (view xs .group g .cpu .weight))
+
+  pub length-weight : (n : ℕ) → n ≡ view xs .group g .cpu .weight → length (decimal n) + 1 ≤ longestLine
+  length-weight n e = omega (arith, length-ended (decimal n), ap length (weight-text n e), length-setting CpuWeight)
 
   pub bandwidth-text : (q : Limit) (n : ℕ) → q ≡ view xs .group g .cpu .quota → n ≡ view xs .group g .cpu .period
-      → valueText (bandwidth q (some n)) ≡ valueText (shown CpuMax (settingsAt (view xs) g))
-  unfolding shown
-  bandwidth-text q n e f = rw (e, f)
+      → ended (valueText (bandwidth q (some n))) ≡ contents (factsOf (view xs)) g (Value CpuMax)
+  unfolding contents shown
+  bandwidth-text q n e f = rw (e, f) (one-line (bandwidth (view xs .group g .cpu .quota) (some (view xs .group g .cpu .period))))
 
   pub limit-text : (r : Resource) (l m : Limit) → l ≡ view xs .group g .core .limit r → m ≡ mapLimit (toFigure r) l
-      → limitText m ≡ valueText (shown (Max r) (settingsAt (view xs) g))
-  unfolding shown valueText
-  limit-text r l m e f = ap limitText (f ∙ ap (mapLimit (toFigure r)) e)
-
-  pub setting-text : (s : Setting)
-      → valueText (shown s (settingsAt (view xs) g)) ++ (newline ∷ []) ≡ contents (factsOf (view xs)) g (Value s)
-  unfolding contents
-  setting-text s = refl
+      → ended (limitText m) ≡ contents (factsOf (view xs)) g (Value (Max r))
+  unfolding contents shown valueText
+  limit-text r l m e f =
+      ap (λ (x : Limit). ended (limitText x)) (f ∙ ap (mapLimit (toFigure r)) e)
+      ∙ one-line (maximum r (mapLimit (toFigure r) (view xs .group g .core .limit r)))
 
 pub bandwidth-words : (q : Limit) (n : ℕ)
-    → limitText q ++ ((space ∷ []) ++ decimal n) ≡ valueText (bandwidth q (some n))
+    → limitText q ++ ((space ∷ []) ++ ended (decimal n)) ≡ ended (valueText (bandwidth q (some n)))
 unfolding valueText
-bandwidth-words q n = refl
+bandwidth-words q n = sym (append-assoc (limitText q) (space ∷ decimal n) (newline ∷ []))
 
 pub length-bandwidth : (q : Limit) (n : ℕ)
-    → length (valueText (bandwidth q (some n))) ≡ length (limitText q) + (1 + length (decimal n))
-length-bandwidth q n = rw (← bandwidth-words q n, length-append) (omega arith)
+    → length (ended (valueText (bandwidth q (some n)))) ≡ length (limitText q) + (2 + length (decimal n))
+length-bandwidth q n = rw (← bandwidth-words q n) (simp length-append (omega arith))

@@ -5,9 +5,9 @@ ghost use mathlib.Core.Option.{some};
 ghost use mathlib.Core.Path.{_≡_};
 ghost use Prim.Native.Nat.{_<_, _≤_};
 ghost use lib.ListN.{length};
-ghost use Rattle.model.specs.Tree.{settingsAt};
 ghost use Rattle.model.specs.Hierarchy.{factsOf};
-ghost use Rattle.model.specs.Settings.{bandwidth, toFigure, mapLimit, figureIn, largest, shown, valueText};
+ghost use Rattle.model.specs.Text.{ended};
+ghost use Rattle.model.specs.Settings.{bandwidth, toFigure, mapLimit, figureIn, largest, limitText, valueText};
 ghost use Rattle.model.specs.Files.{contents};
 ghost use Rattle.model.specs.declared.File.{File};
 ghost use Rattle.text.specs.Write.{Wrote};
@@ -21,7 +21,6 @@ use model::Setting;
 use text::value::PAGE_BYTES;
 use text::write::put_byte;
 use text::write::put_limit;
-use text::write::put_number;
 use text::write::put_text;
 use tree::group::sum;
 use tree::layout::Tree;
@@ -72,32 +71,32 @@ pub fn put_current(t: &Tree, g: GroupId, s: Resource, out: &mut [u8]) -> usize
     put_line(out, 0, figure)
 }
 
-// Both words of cpu.max.
+// Both words of cpu.max, one space between.
 fn put_bandwidth(out: &mut [u8], quota: Limit, period: u64) -> usize
-    requires { ⌜ length (valueText (bandwidth quota (some period))) ≤ length (now out) ⌝ }
-    ensures { λ r. ⌜ Wrote (now (out .entry)) 0 (valueText (bandwidth quota (some period))) (now (out .exit)) r ⌝ }
+    requires { ⌜ length (ended (valueText (bandwidth quota (some period)))) ≤ length (now out) ⌝ }
+    ensures { λ r. ⌜ Wrote (now (out .entry)) 0 (ended (valueText (bandwidth quota (some period)))) (now (out .exit)) r ⌝ }
 {
     let word = put_limit(out, 0, quota);
     let space = put_byte(out, word, b' ');
-    put_number(out, space, period)
+    put_line(out, space, period)
 }
 
-// The value of a setting.
-fn put_value(t: &Tree, g: GroupId, s: Setting, out: &mut [u8]) -> usize
-    requires { ⌜ Ready (now t) (g .0) (now out) ⌝ }
-    ensures { λ r. ⌜ Wrote (now (out .entry)) 0 (valueText (shown s (settingsAt (view (now (t .entry))) (g .0)))) (now (out .exit)) r ⌝ }
+fn put_limit_line(out: &mut [u8], limit: Limit) -> usize
+    requires { ⌜ length (ended (limitText limit)) ≤ length (now out) ⌝ }
+    ensures { λ r. ⌜ Wrote (now (out .entry)) 0 (ended (limitText limit)) (now (out .exit)) r ⌝ }
 {
-    match s {
-        Setting::CpuWeight => put_number(out, 0, weight(t, g)),
-        Setting::CpuMax => put_bandwidth(out, quota(t, g), period(t, g)),
-        Setting::Max(r) => put_limit(out, 0, shown_limit(r, limit(t, g, r))),
-    }
+    let end = put_limit(out, 0, limit);
+    put_byte(out, end, 10)
 }
 
+// The whole text of a settings file.
 pub fn put_setting(t: &Tree, g: GroupId, s: Setting, out: &mut [u8]) -> usize
     requires { ⌜ Ready (now t) (g .0) (now out) ⌝ }
     ensures { λ r. ⌜ Wrote (now (out .entry)) 0 (contents (factsOf (view (now (t .entry)))) (g .0) (File.Value s)) (now (out .exit)) r ⌝ }
 {
-    let end = put_value(t, g, s, out);
-    put_byte(out, end, 10)
+    match s {
+        Setting::CpuWeight => put_line(out, 0, weight(t, g)),
+        Setting::CpuMax => put_bandwidth(out, quota(t, g), period(t, g)),
+        Setting::Max(r) => put_limit_line(out, shown_limit(r, limit(t, g, r))),
+    }
 }

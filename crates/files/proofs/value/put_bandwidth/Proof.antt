@@ -23,8 +23,8 @@ put-byte-requires c κs =
       l .put-limit .kept .0,
     )
 
-put-number-requires : tie.Need-put-number-requires
-put-number-requires c κs =
+put-line-requires : tie.Need-put-line-requires
+put-line-requires c κs =
     let b = c .before .before .before in
     let l = b .before .before .before .before in
     let s = l .before .before .before in
@@ -48,9 +48,9 @@ returns c =
     let l = b .before .before .before .before in
     let s = l .before .before .before in
     wrote-as (bandwidth-words (s .args .quota) (s .args .period))
-    (wrote-then (l .put-limit .ensures) (wrote-then (b .put-byte .ensures) (n .put-number .ensures)))
+    (wrote-then (l .put-limit .ensures) (wrote-then (b .put-byte .ensures) (n .put-line .ensures)))
 
 pub put-bandwidth-spec : {M : Type 1} → statement M
 put-bandwidth-spec =
     tie.close
-    (tie.spec put-limit-requires put-byte-requires put-number-requires same-length returns)
+    (tie.spec put-limit-requires put-byte-requires put-line-requires same-length returns)

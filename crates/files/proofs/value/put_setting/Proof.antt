@@ -1,36 +1,150 @@
--- `files::value::put_setting` meets its contract. Assumes nothing.
+-- `files::value::put_setting` meets its contract: each arm writes what its setting shows. Assumes nothing.
+use Prim.Native.Nat.{_<_}
 use native.Mathlib.Omega.{arith}
+use mathlib.Core.Path.{_≡_, ap, sym, _∙_}
+use lib.ListN.{length}
 use borrow.Author.Needs.{needs}
-use Rattle.text.proofs.WriteLaws.{wrote-then, wrote-as}
-use Rattle.files.proofs.ValueTextLaws.{length-value, setting-text}
+use Rattle.model.specs.Sizes.{groups}
+use Rattle.model.specs.Hierarchy.{factsOf}
+use Rattle.model.specs.Files.{contents}
+use Rattle.model.specs.declared.Setting.{Setting}
+use Rattle.model.specs.declared.Setting.the-variants.{CpuMax, Max}
+use Rattle.model.specs.declared.File.the-variants.{Value}
+use Rattle.text.proofs.WriteLaws.{wrote-as}
+use Rattle.tree.specs.Layout.{view}
+use Rattle.files.proofs.ValueTextLaws.{length-setting, limit-range, weight-text, length-weight, bandwidth-text, limit-text}
 use Rattle.files.proofs.value.put_setting.Statement.{statement}
 use Rattle.files.proofs.value.put_setting.Tie as tie
 
-put-value-requires : tie.Need-put-value-requires
-put-value-requires c κs = search needs
+-- what the group shows, by the setting that was matched
+shows : (s : tie.Start) {x y : Setting} → x ≡ y
+    → contents (factsOf (view (s .args .t .now))) (s .args .g .0) (Value x)
+    ≡ contents (factsOf (view (s .args .t .now))) (s .args .g .0) (Value y)
+shows s e = ap (λ (z : Setting). contents (factsOf (view (s .args .t .now))) (s .args .g .0) (Value z)) e
 
-put-byte-requires : tie.Need-put-byte-requires
-put-byte-requires c κs =
-    let v = c .before .before .before in
-    let s = v .before .before .before in
+-- a live group has a row
+row : (s : tie.Start) → s .args .g .0 < groups
+row s = let k = s .pre .group in k .kept .formed .sound .range _ (k .live)
+
+enum-told : tie.Need-enum-told
+enum-told c = search needs
+
+weight-requires : tie.Need-weight-requires
+weight-requires c κs = row (c .before .before .before .before)
+
+put-line-requires : tie.Need-put-line-requires
+put-line-requires c κs =
+    let s = c .before .before .before .before .before in
     omega (
       arith,
-      length-value (s .args .t .now) (s .args .g .0) (s .pre .group) (s .args .s),
+      length-weight _ _ (s .pre .group) _ (c .weight .ensures),
       s .pre .room,
-      v .put-value .ensures .end,
-      v .put-value .kept .1 .1 .1 .0,
+    )
+
+enum-told-2 : tie.Need-enum-told-2
+enum-told-2 c = search needs
+
+quota-requires : tie.Need-quota-requires
+quota-requires c κs = row (c .before .before .before .before)
+
+period-requires : tie.Need-period-requires
+period-requires c κs = row (c .before .before .before .before .before)
+
+put-bandwidth-requires : tie.Need-put-bandwidth-requires
+put-bandwidth-requires c κs =
+    let q = c .before in
+    let s = q .before .before .before .before .before in
+    omega (
+      arith,
+      ap length (bandwidth-text _ _ (s .pre .group) _ _ (q .quota .ensures) (c .period .ensures)),
+      length-setting _ _ (s .pre .group) CpuMax,
+      s .pre .room,
+    )
+
+enum-known-s : tie.Need-enum-known-s
+enum-known-s c = search needs
+
+limit-requires : tie.Need-limit-requires
+limit-requires c κs = row (c .before .before .before .before .before)
+
+shown-limit-requires : tie.Need-shown-limit-requires
+shown-limit-requires c κs =
+    let m = c .before .before .before in
+    let s = m .before .before .before in
+    limit-range _ _ (s .pre .group) (m .s .given .0 .0) _ (c .limit .ensures)
+
+put-limit-line-requires : tie.Need-put-limit-line-requires
+put-limit-line-requires c κs =
+    let l = c .before in
+    let m = l .before .before .before in
+    let s = m .before .before .before in
+    omega (
+      arith,
+      ap length (limit-text _ _ (s .pre .group) (m .s .given .0 .0) _ _ (l .limit .ensures) (c .shown-limit .ensures)),
+      length-setting _ _ (s .pre .group) (Max (m .s .given .0 .0)),
+      s .pre .room,
     )
 
 same-length : tie.Need-same-length
 same-length c = search needs
 
+-- cpu.weight
 returns : tie.Need-returns
 returns c =
-    let b = c .before .before in
-    let v = b .before .before .before .before in
-    let s = v .before .before .before in
-    wrote-as (setting-text (s .args .t .now) (s .args .g .0) (s .pre .group) (s .args .s))
-    (wrote-then (v .put-value .ensures) (b .put-byte .ensures))
+    let w = c .before .before in
+    let m = w .before .before .before in
+    let s = m .before .before .before in
+    wrote-as
+    (weight-text _ _ (s .pre .group) _ (w .before .weight .ensures) ∙ shows s (sym (m .enum-told .given .1)))
+    (w .put-line .ensures)
+
+same-length-2 : tie.Need-same-length-2
+same-length-2 c = search needs
+
+-- cpu.max
+returns-2 : tie.Need-returns-2
+returns-2 c =
+    let w = c .before .before in
+    let m = w .before .before .before .before in
+    let s = m .before .before .before in
+    wrote-as
+    (bandwidth-text _ _ (s .pre .group) _ _ (w .before .before .quota .ensures) (w .before .period .ensures)
+    ∙ shows s (sym (m .enum-told2 .given .1)))
+    (w .put-bandwidth .ensures)
+
+same-length-3 : tie.Need-same-length-3
+same-length-3 c = search needs
+
+-- memory.max or pids.max
+returns-3 : tie.Need-returns-3
+returns-3 c =
+    let w = c .before .before in
+    let l = w .before .before in
+    let m = l .before .before .before in
+    let s = m .before .before .before in
+    wrote-as
+    (limit-text _ _ (s .pre .group) _ _ _ (l .limit .ensures) (w .before .shown-limit .ensures)
+    ∙ shows s (sym (m .s .given .1)))
+    (w .put-limit-line .ensures)
 
 pub put-setting-spec : {M : Type 1} → statement M
-put-setting-spec = tie.close (tie.spec put-value-requires put-byte-requires same-length returns)
+put-setting-spec =
+    tie.close
+    (tie.spec
+    enum-told
+    weight-requires
+    put-line-requires
+    enum-told-2
+    quota-requires
+    period-requires
+    put-bandwidth-requires
+    enum-known-s
+    limit-requires
+    shown-limit-requires
+    put-limit-line-requires
+    same-length
+    returns
+    same-length-2
+    returns-2
+    same-length-3
+    returns-3)
