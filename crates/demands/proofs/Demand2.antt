@@ -21,10 +21,10 @@ use Rattle.model.specs.Rooms.{shortage}
 use Rattle.model.specs.Rules.{mayWrite, processGroup}
 use Rattle.model.specs.Files.{isPresent, contents}
 use Rattle.model.specs.Calls.{Call, read, fileText, checks, verdict}
-use Rattle.model.specs.Replies.{reply}
+use Rattle.model.specs.Replies.{Asks, reply}
 use Rattle.model.specs.Book.{Entry}
 use Rattle.model.specs.Containment.{caller, OwnsInside, NoneAcross, GivesOutside}
-use Rattle.model.specs.Demands.{Asks, StoppedAt}
+use Rattle.model.specs.Demands.{StoppedAt}
 use Rattle.model.specs.Demands as D
 use Rattle.model.specs.declared.Resource.{Resource}
 use Rattle.model.specs.declared.Setting.{Setting}

@@ -15,7 +15,7 @@ use Rattle.model.specs.Rooms.{Room, room, full, roomFor, isFull, shortag
 use Rattle.model.specs.Rules.{processGroup, lineProcess, leaving}
 use Rattle.model.specs.Calls.{Call, make, remove, handOver, writeProcs, writeControl, writeSetting, admit, fork, exit, charge, release, read, membership, lineValue, chargeChecks, forkChecks, checks, verdict}
 use Rattle.model.specs.Effects.{newSet, controlled, written, effect, step, fresh, run}
-use Rattle.model.specs.Replies.{roomAnswer, chargeAnswer, forkAnswer, roomNumber, readAnswer, readNumber, reply, replyBy}
+use Rattle.model.specs.Replies.{roomAnswer, chargeAnswer, forkAnswer, roomNumber, readAnswer, readNumber, Asks, forCharge, forFork, askedAnswer, Sort, plain, asking, delivering, sortOf, sortReply, reply, replyBy}
 use Rattle.model.specs.Book.{Book, limitsAfter, childAfter, enterValue, enter, bookStep, freshBook, bookOf, fed}
 use Rattle.model.specs.WellFormed.{WellFormed}
 use Rattle.model.specs.Lists.{log, bookAfter}
@@ -51,21 +51,19 @@ room-number r cs x = go (first cs) x ∙ ap answerNumber (sym (first-append cs (
     go Done (full g k) = refl
     go (Refused e) x = refl
 
+asked-number : (t : Tree) {r : Resource} {n p : ℕ} {c : Call} (k : Asks r n p c) → roomNumber r (askedAnswer (factsOf t) k) ≡ answerNumber (verdict t c)
+unfolding verdict chargeAnswer forkAnswer checks
+asked-number t (forCharge {p = p} {n = n}) = room-number Pages (chargeChecks t p n) (roomFor (factsOf t) Pages n (processGroup t p))
+asked-number t (forFork {p = p} {new = new}) = room-number Processes (forkChecks t p new) (roomFor (factsOf t) Processes 1 (processGroup t p))
+
 pub reply-number : (t : Tree) (c : Call) → reply t c .number ≡ answerNumber (verdict t c)
-unfolding reply replyBy verdict chargeAnswer forkAnswer checks
-reply-number t (make user parent new) = refl
-reply-number t (remove user g) = refl
-reply-number t (handOver user g owner) = refl
-reply-number t (writeProcs user g line) = refl
-reply-number t (writeControl user g line) = refl
-reply-number t (writeSetting user g file line) = refl
-reply-number t (admit p user) = refl
-reply-number t (fork p new) = room-number Processes (forkChecks t p new) (roomFor (factsOf t) Processes 1 (processGroup t p))
-reply-number t (exit p) = refl
-reply-number t (charge p n) = room-number Pages (chargeChecks t p n) (roomFor (factsOf t) Pages n (processGroup t p))
-reply-number t (release g n) = refl
-reply-number t (read g file buffer) = read-number (verdict t (read g file buffer)) _
-reply-number t (membership p buffer) = read-number (verdict t (membership p buffer)) _
+unfolding reply replyBy verdict
+reply-number t c = go (sortOf c)
+  where
+    go : (s : Sort c) → sortReply (factsOf t) s .number ≡ answerNumber (verdict t c)
+    go plain = refl
+    go (asking k) = asked-number t k
+    go (delivering text buffer) = read-number (verdict t c) _
 
 -- What the two keep is the same.
 pub record Same (t : Tree) (b : Book) : Type 0 where

@@ -20,7 +20,7 @@ use Rattle.model.specs.Rules.{mayWrite, processGroup}
 use Rattle.model.specs.Files.{contents, fits}
 use Rattle.model.specs.Calls.{Call, writeSetting, admit, fork, charge, read, checks, verdict}
 use Rattle.model.specs.Effects.{effect, step, fresh, run}
-use Rattle.model.specs.Replies.{reply, textReply, bufferOf}
+use Rattle.model.specs.Replies.{reply, textReply, Asks, bufferOf}
 use Rattle.model.specs.WellFormed.{WellFormed}
 use Rattle.model.specs.Book.{Book, inBook, freshBook, bookOf}
 use Rattle.model.specs.Lists.{Accepted, log, bookAfter}
@@ -86,11 +86,6 @@ pub record WriteBack (t : Tree) : Type 0 where
       → All (λ line. WrittenBack t user g s line × WrittenBack t user g s (body line)) (linesOf (shownBy t g s))
   pub whole : (g : ℕ) (s : Setting) → joined (linesOf (shownBy t g s)) ≡ shownBy t g s
   pub one : (g : ℕ) (s : Setting) → linesOf (shownBy t g s) ≡ shownBy t g s ∷ []
-
--- a call that asks for n more of a resource, and the process that it asks for
-pub data Asks : Resource → ℕ → ℕ → Call → Type 0 where
-  forCharge : {p n : ℕ} → Asks Pages n p (charge p n)
-  forFork : {p new : ℕ} → Asks Processes 1 p (fork p new)
 
 -- h is the first group without room on the chain of g, and k its place there, counted from 1
 abbrev pub StoppedAt : Tree → Resource → ℕ → ℕ → ℕ → ℕ → Type 0
