@@ -20,6 +20,7 @@ pub mod SettingTextLaws
 pub mod Preservation
 pub mod ControlPreservation
 pub mod SettingPreservation
+pub mod Changes
 pub mod Steps
 pub mod ProcessLaws
 pub mod Books

@@ -12,7 +12,7 @@ use Rattle.model.proofs.FunctionLaws.{upd-keeps}
 use Rattle.model.proofs.AmountLaws.{amount-same}
 
 -- a part of a group that holds no settings
-part-written : {A : Type 0} (F : Group → A) → ((x : Settings) (v : Group) → F (withSettings x v) ≡ F v)
+pub part-written : {A : Type 0} (F : Group → A) → ((x : Settings) (v : Group) → F (withSettings x v) ≡ F v)
     → (o : Option SettingValue) (v : Group) → F (written o v) ≡ F v
 part-written F e none v = refl
 part-written F e (some x) v = e _ v

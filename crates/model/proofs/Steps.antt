@@ -3,7 +3,7 @@ use Prim.Native.Nat.{ℕ, _+_, _≤_}
 use native.Mathlib.Omega.{arith}
 use mathlib.Core.Bool.{true, false, not, _&&_}
 use mathlib.Core.List.{List, [], _∷_}
-use mathlib.Core.Logic.{_≢_}
+use mathlib.Core.Logic.{_≢_, inl, inr}
 use mathlib.Core.Option.{Option, none, some}
 use mathlib.Core.Path.{_≡_, refl, ap, sym, _∙_}
 use lib.Dec.{eqb}
@@ -11,16 +11,16 @@ use borrow.Author.Tests.{eqb-false, eq-eqb, ne-eqb, leb-false, ltb-false, not-fa
 use Rattle.model.specs.Functions.{upd, passes, known}
 use Rattle.model.specs.Sizes.{groups, processes}
 use Rattle.model.specs.Checks.{Pass}
-use Rattle.model.specs.Tree.{Tree, Core, Group, at, isLive, groupOf, settingsOf, atGroup, cores, lives, parents, depths, sets, settingsAt, places}
-use Rattle.model.specs.Hierarchy.{on, onIn, childOf, ownPages, usage, factsOf}
+use Rattle.model.specs.Tree.{Tree, Core, Group, at, isLive, groupOf, noProcess, settingsOf, cores, lives, parents, depths, sets, settingsAt, places}
+use Rattle.model.specs.Hierarchy.{on, onIn, childOf, headcount, ownPages, usage, factsOf}
 use Rattle.model.specs.Control.{asked, isWanted, anyController}
 use Rattle.model.specs.Settings.{settingController, SettingValue, inRange, valueOf}
 use Rattle.model.specs.Text.{lineWords}
 use Rattle.model.specs.Rooms.{over, actingLimit}
 use Rattle.model.specs.Names.{settingNamed}
 use Rattle.model.specs.Rules.{available, standsIn, processGroup, hasChild, hasProcess, heldByChild, lineProcess, joining, leaving}
-use Rattle.model.specs.Calls.{Call, make, remove, handOver, writeProcs, writeControl, writeSetting, admit, fork, exit, charge, release, read, membership, settingValue, chargeChecks, forkChecks, checks, verdict}
-use Rattle.model.specs.Effects.{charged, uncharged, newSet, controlled, written, effect, step, run}
+use Rattle.model.specs.Calls.{Call, settingValue, lineValue, chargeChecks, forkChecks, checks, verdict}
+use Rattle.model.specs.Effects.{charged, uncharged, newSet, written, effect, step, run}
 use Rattle.model.specs.WellFormed.{WellFormed}
 use Rattle.model.specs.declared.Resource.the-variants.{Pages}
 use Rattle.model.specs.declared.Controller.{Controller}
@@ -38,7 +38,9 @@ use Rattle.model.proofs.AllowedLaws.{allowed-new, allowed-after-put}
 use Rattle.model.proofs.RoomLaws.{room-on-chain, over-figure, machine-acts}
 use Rattle.model.proofs.RuleLaws.{NoChild}
 use Rattle.model.proofs.Preservation.{Patch, well-formed-after-patch, well-formed-after-place, well-formed-after-make, well-formed-after-remove}
-use Rattle.model.proofs.ControlPreservation.{child-of, well-formed-after-control}
+use Rattle.model.proofs.ControlPreservation.{child-of, Control, well-formed-after-control}
+use Rattle.model.proofs.SettingPreservation.{part-written}
+use Rattle.model.proofs.Changes.{still, came, went, RoomAbove, Change, nothing, placed, altered, made, removal, control}
 
 -- A step by its verdict.
 pub step-accepted : (t : Tree) (c : Call) → verdict t c ≡ Done → step t c ≡ effect t c
@@ -116,11 +118,10 @@ module _ (t : Tree) (w : WellFormed t) where
 
   -- a setting written
   kept-value : (g : ℕ) (s : Setting) (ws : List (List ℕ)) (v : Option SettingValue) → valueOf s ws ≡ v → lives t g ≡ true
-      → on t (settingController s) g ≡ true → known v ≡ true → passes v inRange ≡ true → WellFormed (atGroup t g (written v (t .group g)))
+      → on t (settingController s) g ≡ true → known v ≡ true → passes v inRange ≡ true → Patch t g (written v (t .group g))
   kept-value g s ws none e l o k r = clash false k refl
   kept-value g s ws (some v) e l o k r =
-      well-formed-after-patch t w g _
-      (record {
+      record {
         alive = l;
         live = l;
         parent = refl;
@@ -131,11 +132,11 @@ module _ (t : Tree) (w : WellFormed t) where
             λ c h. default-after-put s ws v c (settingsAt t g) e (controller-apart s c g o h) (w .defaults .off c g l h);
         ranges = allowed-after-put v (settingsAt t g) r (w .ranges .within g l);
         fits = same-pages g _ refl refl;
-      })
+      }
 
   kept-setting : (g : ℕ) (named : Option Setting) (line : List ℕ) → lives t g ≡ true → passes named (λ s. on t (settingController s) g) ≡ true
       → known (settingValue named line) ≡ true → passes (settingValue named line) inRange ≡ true
-      → WellFormed (atGroup t g (written (settingValue named line) (t .group g)))
+      → Patch t g (written (settingValue named line) (t .group g))
   kept-setting g none line l o k r = clash false k refl
   kept-setting g (some s) line l o k r = kept-value g s (lineWords line) (valueOf s (lineWords line)) refl l o k r
 
@@ -171,79 +172,147 @@ module _ (t : Tree) (w : WellFormed t) where
         (and-false (hasProcess t g) _ (and-false (not (eqb g 0)) _ join (rw (ne-eqb g 0 nz))) y) c))
         (λ n. absurd (no-process g n p e))
 
-    kept-control : WellFormed (controlled t g (newSet t g line) (leaving t g line))
+    kept-control : Control t g (newSet t g line) (leaving t g line)
     kept-control =
-        well-formed-after-control t g (newSet t g line) (leaving t g line) w
-        (record {
+        record {
           alive = l;
           available = set-available;
           kept = set-kept;
           quiet = set-quiet;
           reset = λ c y n. leave-true (sets t g c) (asked line c) y n;
-        })
+        }
 
   -- own pages charged or released
   module _ (g : ℕ) (l : lives t g ≡ true) where
-    kept-charge : (n : ℕ) → over (usage (cores t) 0 + n) (actingLimit t Pages 0) ≡ false → WellFormed (atGroup t g (charged n (t .group g)))
+    kept-charge : (n : ℕ) → over (usage (cores t) 0 + n) (actingLimit t Pages 0) ≡ false → Patch t g (charged n (t .group g))
     kept-charge n o =
-        well-formed-after-patch t w g _
-        (patch-same g _ l l refl refl refl (root-owner g) refl
+        patch-same g _ l l refl refl refl (root-owner g) refl
         (omega (
           arith,
           over-figure _ (t .machine) _ o (machine-acts t),
           usage-after-charge (cores t) g n (w .sound .range g l) l 0,
           weigh-yes _ n (root-inside (w .sound) g l),
-        )))
+        ))
 
-    kept-release : (n : ℕ) → n ≤ t .group g .core .own → WellFormed (atGroup t g (uncharged n (t .group g)))
+    kept-release : (n : ℕ) → n ≤ t .group g .core .own → Patch t g (uncharged n (t .group g))
     kept-release n h =
-        well-formed-after-patch t w g _
-        (patch-same g _ l l refl refl refl (root-owner g) refl
-        (omega (arith, usage-after-release (cores t) g n (w .sound .range g l) l h 0, w .sized .fits)))
+        patch-same g _ l l refl refl refl (root-owner g) refl
+        (omega (arith, usage-after-release (cores t) g n (w .sound .range g l) l h 0, w .sized .fits))
 
--- Every accepted call.
-pub well-formed-effect : (t : Tree) (c : Call) → WellFormed t → Pass (checks (factsOf t) c) → WellFormed (effect t c)
+-- Every accepted call makes one of the six changes.
+pub change : (t : Tree) (c : Call) → WellFormed t → Pass (checks (factsOf t) c) → Change t c (effect t c)
 unfolding effect checks Pass chargeChecks forkChecks
-well-formed-effect t (make user parent new) w k =
-    well-formed-after-make t w parent new user (search) (search) (omega (arith, leb-false)) (omega (arith, leb-false)) default-new allowed-new
-well-formed-effect t (remove user g) w k =
-    well-formed-after-remove t w g (search) (eqb-false g 0 (search)) (no-child t w g (search)) (no-process t w g (search))
-well-formed-effect t (handOver user g owner) w k =
+change t (Call.make user parent new) w k =
+    made user parent new refl
+    (record { above = (search); dead = (search); low = omega (arith, leb-false); shallow = omega (arith, leb-false); may = (search) })
+change t (Call.remove user g) w k =
+    removal g refl
+    (record {
+      alive = (search);
+      inner = eqb-false g 0 (search);
+      noChild = no-child t w g (search);
+      noProcess = no-process t w g (search);
+    })
+change t (Call.handOver user g owner) w k =
     let l : lives t g ≡ true = (search) in
-    well-formed-after-patch t w g _
-    (patch-same t w g _ l l refl refl refl (λ e. absurd (eqb-false g 0 (search) e)) refl (same-pages t w g _ refl refl))
-well-formed-effect t (writeProcs user g line) w k =
+    altered g _
+    (record {
+      patch = patch-same t w g _ l l refl refl refl (λ e. absurd (eqb-false g 0 (search) e)) refl (same-pages t w g _ refl refl);
+      owner = inr (record { giver = user; call = refl });
+      pages = still refl refl;
+      limit = inl refl;
+    })
+change t (Call.writeProcs user g line) w k =
     let p : ℕ = lineProcess line in
     let lg : lives t g ≡ true = (search) in
-    well-formed-after-place t w p _ (eqb-false p 0 (search))
-    (λ h e. let d : g ≡ h = cc in (rw (← d) lg, omega (arith, leb-false)))
-    (λ h e nz c. let d : g ≡ h = cc in
-    let q : anyController (sets t g) ≡ false = and-false (not (eqb g 0)) _ (search) (rw (ne-eqb g 0 (λ z. nz (sym d ∙ z)))) in
-    rw (← d) (any-controller-none (sets t g) q c))
-    (λ e. let z : _≡_ {A = ℕ} 0 1 = cc in absurd (omega arith))
-well-formed-effect t (writeControl user g line) w k = kept-control t w g line (search) (search) (search) (search)
-well-formed-effect t (writeSetting user g file line) w k = kept-setting t w g (settingNamed file) line (search) (search) (search) (search)
-well-formed-effect t (admit p user) w k =
-    well-formed-after-place t w p _ (eqb-false p 0 (search))
-    (λ h e. let d : 0 ≡ h = cc in (rw (← d) (w .sound .root), omega (arith, leb-false)))
-    (λ h e nz c. let d : 0 ≡ h = cc in absurd (nz (sym d)))
-    (λ e. let z : _≡_ {A = ℕ} 0 1 = cc in absurd (omega arith))
-well-formed-effect t (fork p new) w k =
-    well-formed-after-place t w new _ (eqb-false new 0 (search))
-    (λ h e. (w .placed .group p h e, omega (arith, leb-false)))
-    (λ h e nz c. w .quiet .empty p h e nz c)
-    (λ e. clash (isLive (places t p)) (search) (rw e))
-well-formed-effect t (exit p) w k =
-    well-formed-after-place t w p _ (process-number t w p (search))
-    (λ h e. let z : _≡_ {A = ℕ} 0 1 = cc in absurd (omega arith))
-    (λ h e nz c. let z : _≡_ {A = ℕ} 0 1 = cc in absurd (omega arith))
-    (λ e. refl)
-well-formed-effect t (charge p n) w k =
-    let l : lives t (processGroup t p) ≡ true = process-lives t w p (search) in
-    kept-charge t w (processGroup t p) l n (room-on-chain (factsOf t) Pages n (processGroup t p) (search) 0 (root-inside (w .sound) (processGroup t p) l))
-well-formed-effect t (release g n) w k = kept-release t w g (search) n (omega (arith, ltb-false))
-well-formed-effect t (read g file buffer) w k = w
-well-formed-effect t (membership p buffer) w k = w
+    placed p (record { place = at g; user = t .process p .user })
+    (record {
+      number = eqb-false p 0 (search);
+      low = omega (arith, leb-false);
+      group = λ h e. let d : g ≡ h = cc in rw (← d) lg;
+      quiet = λ h e nz c.
+          let d : g ≡ h = cc in
+          let q : anyController (sets t g) ≡ false = and-false (not (eqb g 0)) _ (search) (rw (ne-eqb g 0 (λ z. nz (sym d ∙ z)))) in
+          rw (← d) (any-controller-none (sets t g) q c);
+      blank = λ e. let z : _≡_ {A = ℕ} 0 1 = cc in absurd (omega arith);
+      moved = λ h i was e.
+          let d : g ≡ i = cc in
+          inr (record { user = user; line = line; call = ap (λ x. Call.writeProcs user x line) d; process = refl });
+      heads = still refl (sym (ap headcount (place-live (places t p) (search))));
+    })
+change t (Call.writeControl user g line) w k = control g line refl (kept-control t w g line (search) (search) (search) (search))
+change t (Call.writeSetting user g file line) w k =
+    altered g _
+    (record {
+      patch = kept-setting t w g (settingNamed file) line (search) (search) (search) (search);
+      owner = inl (part-written (λ v. v .owner) (λ _ _. refl) (lineValue file line) (t .group g));
+      pages = still refl (part-written (λ v. v .core .own) (λ _ _. refl) (lineValue file line) (t .group g));
+      limit = inr (record { user = user; group = g; file = file; line = line; call = refl });
+    })
+change t (Call.admit p user) w k =
+    placed p (record { place = at 0; user = user })
+    (record {
+      number = eqb-false p 0 (search);
+      low = omega (arith, leb-false);
+      group = λ h e. let d : 0 ≡ h = cc in rw (← d) (w .sound .root);
+      quiet = λ h e nz c. let d : 0 ≡ h = cc in absurd (nz (sym d));
+      blank = λ e. let z : _≡_ {A = ℕ} 0 1 = cc in absurd (omega arith);
+      moved = λ g h was e. clash (isLive (places t p)) (rw was) (search);
+      heads = came 1 refl (rw (place-free (places t p) (search)) (omega arith)) tt;
+    })
+change t (Call.fork p new) w k =
+    placed new (t .process p)
+    (record {
+      number = eqb-false new 0 (search);
+      low = omega (arith, leb-false);
+      group = λ h e. w .placed .group p h e;
+      quiet = λ h e nz c. w .quiet .empty p h e nz c;
+      blank = λ e. clash (isLive (places t p)) (search) (rw e);
+      moved = λ g h was e. clash (isLive (places t new)) (rw was) (search);
+      heads = came 1 refl (rw (place-free (places t new) (search), place-live (places t p) (search)) (omega arith)) tt;
+    })
+change t (Call.exit p) w k =
+    let here : places t p ≡ at (processGroup t p) = place-live (places t p) (search) in
+    placed p noProcess
+    (record {
+      number = process-number t w p (search);
+      low = w .placed .range p (processGroup t p) here;
+      group = λ h e. let z : _≡_ {A = ℕ} 0 1 = cc in absurd (omega arith);
+      quiet = λ h e nz c. let z : _≡_ {A = ℕ} 0 1 = cc in absurd (omega arith);
+      blank = λ e. refl;
+      moved = λ g h was e. let z : _≡_ {A = ℕ} 0 1 = cc in absurd (omega arith);
+      heads = went 1 refl (sym (ap headcount here));
+    })
+change t (Call.charge p n) w k =
+    let g : ℕ = processGroup t p in
+    let l : lives t g ≡ true = process-lives t w p (search) in
+    let r : RoomAbove t g n = room-on-chain (factsOf t) Pages n g (search) in
+    altered g _
+    (record {
+      patch = kept-charge t w g l n (r 0 (root-inside (w .sound) g l));
+      owner = inl refl;
+      pages = came n refl refl r;
+      limit = inl refl;
+    })
+change t (Call.release g n) w k =
+    let h : n ≤ t .group g .core .own = omega (arith, ltb-false) in
+    altered g _
+    (record { patch = kept-release t w g (search) n h; owner = inl refl; pages = went n refl (omega arith); limit = inl refl })
+change t (Call.read g file buffer) w k = nothing refl
+change t (Call.membership p buffer) w k = nothing refl
+
+well-formed-change : (t : Tree) {c : Call} {u : Tree} → WellFormed t → Change t c u → WellFormed u
+well-formed-change t w (nothing f) = w
+well-formed-change t w (placed p v k) =
+    well-formed-after-place t w p v (k .number) (λ h e. (k .group h e, k .low)) (k .quiet) (k .blank)
+well-formed-change t w (altered g v k) = well-formed-after-patch t w g v (k .patch)
+well-formed-change t w (made user parent new f k) =
+    well-formed-after-make t w parent new user (k .above) (k .dead) (k .low) (k .shallow) default-new allowed-new
+well-formed-change t w (removal g f k) = well-formed-after-remove t w g (k .alive) (k .inner) (k .noChild) (k .noProcess)
+well-formed-change t w (control g line f k) = well-formed-after-control t g _ _ w k
+
+pub well-formed-effect : (t : Tree) (c : Call) → WellFormed t → Pass (checks (factsOf t) c) → WellFormed (effect t c)
+well-formed-effect t c w k = well-formed-change t w (change t c w k)
 
 pub well-formed-step : (t : Tree) (c : Call) → WellFormed t → WellFormed (step t c)
 well-formed-step t c w =

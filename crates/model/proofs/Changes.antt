@@ -1,0 +1,90 @@
+-- What an accepted call may do to a tree: one of six changes, each with what the laws about all calls need to know of it. Whatever
+-- is said of every call goes by these six and not by the calls, so that a call that makes no new kind of change costs one clause,
+-- that of `change` in Steps.antt. Assumes nothing.
+use Prim.Native.Nat.{ℕ, suc, _+_, _<_}
+use mathlib.Core.Bool.{true, false}
+use mathlib.Core.List.{List}
+use mathlib.Core.Logic.{_≢_, _⊎_}
+use mathlib.Core.Path.{_≡_}
+use Rattle.model.specs.Sizes.{groups, processes, deepest}
+use Rattle.model.specs.Tree.{Tree, Group, Process, nowhere, at, noProcess, newGroup, atGroup, atProcess, cores, lives, parents, depths, owners, sets, places}
+use Rattle.model.specs.Hierarchy.{inside, headcount, usage}
+use Rattle.model.specs.Rooms.{over, actingLimit}
+use Rattle.model.specs.Rules.{mayWrite, lineProcess, leaving}
+use Rattle.model.specs.Calls.{Call}
+use Rattle.model.specs.Effects.{removed, newSet, controlled}
+use Rattle.model.specs.Totals.{Flow, flow}
+use Rattle.model.specs.declared.Resource.{Resource}
+use Rattle.model.specs.declared.Resource.the-variants.{Pages, Processes}
+use Rattle.model.specs.declared.Controller.{Controller}
+use Rattle.model.proofs.RuleLaws.{NoChild}
+use Rattle.model.proofs.Preservation.{Patch}
+use Rattle.model.proofs.ControlPreservation.{Control}
+
+-- The calls that the demands single out: a write of cgroup.procs that names p, a hand over, a write of a setting.
+pub record Moves (c : Call) (p g : ℕ) : Type 0 where
+  pub user : ℕ
+  pub line : List ℕ
+  pub call : c ≡ Call.writeProcs user g line
+  pub process : lineProcess line ≡ p
+
+pub record Gives (c : Call) (g owner : ℕ) : Type 0 where
+  pub giver : ℕ
+  pub call : c ≡ Call.handOver giver g owner
+
+pub record WritesSetting (c : Call) : Type 0 where
+  pub user : ℕ
+  pub group : ℕ
+  pub file : List ℕ
+  pub line : List ℕ
+  pub call : c ≡ Call.writeSetting user group file line
+
+-- from a to b of a resource, as the call's flow says; n more only where there is room for them
+pub data Flowed (c : Call) (s : Resource) (Room : ℕ → Type 0) (a b : ℕ) : Type 0 where
+  still : flow c ≡ Flow.none → b ≡ a → Flowed c s Room a b
+  came : (n : ℕ) → flow c ≡ Flow.into s n → b ≡ a + n → Room n → Flowed c s Room a b
+  went : (n : ℕ) → flow c ≡ Flow.out s n → b + n ≡ a → Flowed c s Room a b
+
+-- a process that is put somewhere, or nowhere
+pub record Placing (t : Tree) (c : Call) (p : ℕ) (v : Process) : Type 0 where
+  pub number : p ≢ 0
+  pub low : p < processes
+  pub group : (g : ℕ) → v .place ≡ at g → lives t g ≡ true
+  pub quiet : (g : ℕ) → v .place ≡ at g → g ≢ 0 → (x : Controller) → sets t g x ≡ false
+  pub blank : v .place ≡ nowhere → v ≡ noProcess
+  pub moved : (g h : ℕ) → places t p ≡ at g → v .place ≡ at h → (g ≡ h) ⊎ Moves c p h
+  pub heads : Flowed c Processes (λ _. Unit {0}) (headcount (places t p)) (headcount (v .place))
+
+-- "would pass memory.max" of no group on the way up from g
+abbrev pub RoomAbove : Tree → ℕ → ℕ → Type 0
+RoomAbove t g n = (a : ℕ) → inside (parents t) a g ≡ true → over (usage (cores t) a + n) (actingLimit t Pages a) ≡ false
+
+-- a live group that keeps its place and its set, and what may change in it
+pub record Altering (t : Tree) (c : Call) (g : ℕ) (v : Group) : Type 0 where
+  pub patch : Patch t g v
+  pub owner : (v .owner ≡ owners t g) ⊎ Gives c g (v .owner)
+  pub pages : Flowed c Pages (RoomAbove t g) (t .group g .core .own) (v .core .own)
+  pub limit : (v .core .limit Pages ≡ t .group g .core .limit Pages) ⊎ WritesSetting c
+
+pub record Making (t : Tree) (user parent new : ℕ) : Type 0 where
+  pub above : lives t parent ≡ true
+  pub dead : lives t new ≡ false
+  pub low : new < groups
+  pub shallow : depths t parent < deepest
+  pub may : mayWrite t user parent ≡ true
+
+pub record Removing (t : Tree) (g : ℕ) : Type 0 where
+  pub alive : lives t g ≡ true
+  pub inner : g ≢ 0
+  pub noChild : NoChild (lives t) (parents t) g
+  pub noProcess : (p : ℕ) → places t p ≢ at g
+
+pub data Change (t : Tree) (c : Call) : Tree → Type 0 where
+  nothing : flow c ≡ Flow.none → Change t c t
+  placed : (p : ℕ) (v : Process) → Placing t c p v → Change t c (atProcess t p v)
+  altered : (g : ℕ) (v : Group) → Altering t c g v → Change t c (atGroup t g v)
+  made : (user parent new : ℕ) → flow c ≡ Flow.none → Making t user parent new
+      → Change t c (atGroup t new (newGroup parent (suc (depths t parent)) user))
+  removal : (g : ℕ) → flow c ≡ Flow.none → Removing t g → Change t c (removed t g)
+  control : (g : ℕ) (line : List ℕ) → flow c ≡ Flow.none → Control t g (newSet t g line) (leaving t g line)
+      → Change t c (controlled t g (newSet t g line) (leaving t g line))
