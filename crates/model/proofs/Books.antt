@@ -3,6 +3,7 @@
 use Prim.Native.Nat.{ℕ}
 use mathlib.Core.Bool.{Bool, true, false, _&&_}
 use mathlib.Core.List.{List, [], _∷_, _++_}
+use mathlib.Core.Logic.{_⊎_, inl, inr}
 use mathlib.Core.Option.{Option, none, some}
 use mathlib.Core.Path.{_≡_, refl, ap, ap₂, sym, _∙_, fun-ext, subst}
 use Rattle.model.specs.Functions.{pick}
@@ -13,7 +14,7 @@ use Rattle.model.specs.Control.{asked, isDropped}
 use Rattle.model.specs.Settings.{SettingValue, weight, bandwidth, maximum, put, reset}
 use Rattle.model.specs.Rooms.{Room, room, full, roomFor, isFull, shortage}
 use Rattle.model.specs.Rules.{processGroup, lineProcess, leaving}
-use Rattle.model.specs.Calls.{Call, make, remove, handOver, writeProcs, writeControl, writeSetting, admit, fork, exit, charge, release, read, membership, lineValue, chargeChecks, forkChecks, checks, verdict}
+use Rattle.model.specs.Calls.{Call, lineValue, chargeChecks, forkChecks, checks, verdict}
 use Rattle.model.specs.Effects.{newSet, controlled, written, effect, step, fresh, run}
 use Rattle.model.specs.Replies.{roomAnswer, chargeAnswer, forkAnswer, roomNumber, readAnswer, readNumber, Asks, forCharge, forFork, askedAnswer, Sort, plain, asking, delivering, sortOf, sortReply, reply, replyBy}
 use Rattle.model.specs.Book.{Book, limitsAfter, childAfter, enterValue, enter, bookStep, freshBook, bookOf, fed}
@@ -34,6 +35,7 @@ use Rattle.model.proofs.AmountLaws.{usage-fresh}
 use Rattle.model.proofs.RoomLaws.{default-limit}
 use Rattle.model.proofs.RuleLaws.{on-other}
 use Rattle.model.proofs.Preservation.{cores-after-remove}
+use Rattle.model.proofs.Changes.{WritesSetting}
 use Rattle.model.proofs.ControlPreservation.{child-live, child-parent, child-not-root, reset-child, reset-other}
 
 -- The number of a reply is that of the verdict.
@@ -137,29 +139,51 @@ module _ (t : Tree) (mark : ℕ → ℕ) (g : ℕ) where
   same-after-value (some (bandwidth q (some p))) = record { machine = refl; groups = fun-ext (upd-keeps (λ x. x .core) (t .group) g _ refl); places = refl }
   same-after-value (some (maximum r l)) = record { machine = refl; groups = upd-map (λ x. x .core) (t .group) g _; places = refl }
 
-pub same-effect : (t : Tree) (mark : ℕ → ℕ) (c : Call) → WellFormed t → Same (effect t c) (enter (bookWith t mark) c)
+-- An accepted call: both keep the same afterwards, whatever the marks are, and the marks stay unless a setting is written.
+pub record Booked (t : Tree) (c : Call) : Type 0 where
+  pub same : (mark : ℕ → ℕ) → Same (effect t c) (enter (bookWith t mark) c)
+  pub marks : ((mark : ℕ → ℕ) → enter (bookWith t mark) c .mark ≡ mark) ⊎ WritesSetting c
+
+-- a call that writes no setting
+quietly : (t : Tree) (c : Call) → ((mark : ℕ → ℕ) → enter (bookWith t mark) c .mark ≡ mark)
+    → ((mark : ℕ → ℕ) → Same (effect t c) (enter (bookWith t mark) c)) → Booked t c
+quietly t c m s = record { same = s; marks = inl m }
+
+pub booked : (t : Tree) (c : Call) → WellFormed t → Booked t c
 unfolding effect enter
-same-effect t mark (make user parent new) w = record { machine = refl; groups = upd-map (λ x. x .core) (t .group) new _; places = refl }
-same-effect t mark (remove user g) w =
-    record { machine = refl; groups = cores-after-remove t g; places = refl }
-same-effect t mark (handOver user g owner) w =
-    record { machine = refl; groups = fun-ext (upd-keeps (λ x. x .core) (t .group) g _ refl); places = refl }
-same-effect t mark (writeProcs user g line) w =
-    record { machine = refl; groups = refl; places = upd-map (λ x. x .place) (t .process) (lineProcess line) _ }
-same-effect t mark (writeControl user g line) w =
-    record { machine = refl; groups = fun-ext (cores-after-control t w g line); places = refl }
-same-effect t mark (writeSetting user g file line) w = same-after-value t mark g (lineValue file line)
-same-effect t mark (admit p user) w = record { machine = refl; groups = refl; places = upd-map (λ x. x .place) (t .process) p _ }
-same-effect t mark (fork p new) w = record { machine = refl; groups = refl; places = upd-map (λ x. x .place) (t .process) new _ }
-same-effect t mark (exit p) w = record { machine = refl; groups = refl; places = upd-map (λ x. x .place) (t .process) p _ }
-same-effect t mark (charge p n) w =
-    record { machine = refl; groups = upd-map (λ x. x .core) (t .group) (processGroup t p) _; places = refl }
-same-effect t mark (release g n) w = record { machine = refl; groups = upd-map (λ x. x .core) (t .group) g _; places = refl }
-same-effect t mark (read g file buffer) w = record { machine = refl; groups = refl; places = refl }
-same-effect t mark (membership p buffer) w = record { machine = refl; groups = refl; places = refl }
+booked t (Call.make user parent new) w =
+    quietly t _ (λ _. refl) (λ _. record { machine = refl; groups = upd-map (λ x. x .core) (t .group) new _; places = refl })
+booked t (Call.remove user g) w =
+    quietly t _ (λ _. refl) (λ _. record { machine = refl; groups = cores-after-remove t g; places = refl })
+booked t (Call.handOver user g owner) w =
+    quietly t _ (λ _. refl)
+    (λ _. record { machine = refl; groups = fun-ext (upd-keeps (λ x. x .core) (t .group) g _ refl); places = refl })
+booked t (Call.writeProcs user g line) w =
+    quietly t _ (λ _. refl)
+    (λ _. record { machine = refl; groups = refl; places = upd-map (λ x. x .place) (t .process) (lineProcess line) _ })
+booked t (Call.writeControl user g line) w =
+    quietly t _ (λ _. refl) (λ _. record { machine = refl; groups = fun-ext (cores-after-control t w g line); places = refl })
+booked t (Call.writeSetting user g file line) w =
+    record {
+      same = λ mark. same-after-value t mark g (lineValue file line);
+      marks = inr (record { user = user; group = g; file = file; line = line; call = refl });
+    }
+booked t (Call.admit p user) w =
+    quietly t _ (λ _. refl) (λ _. record { machine = refl; groups = refl; places = upd-map (λ x. x .place) (t .process) p _ })
+booked t (Call.fork p new) w =
+    quietly t _ (λ _. refl) (λ _. record { machine = refl; groups = refl; places = upd-map (λ x. x .place) (t .process) new _ })
+booked t (Call.exit p) w =
+    quietly t _ (λ _. refl) (λ _. record { machine = refl; groups = refl; places = upd-map (λ x. x .place) (t .process) p _ })
+booked t (Call.charge p n) w =
+    quietly t _ (λ _. refl)
+    (λ _. record { machine = refl; groups = upd-map (λ x. x .core) (t .group) (processGroup t p) _; places = refl })
+booked t (Call.release g n) w =
+    quietly t _ (λ _. refl) (λ _. record { machine = refl; groups = upd-map (λ x. x .core) (t .group) g _; places = refl })
+booked t (Call.read g file buffer) w = quietly t _ (λ _. refl) (λ _. record { machine = refl; groups = refl; places = refl })
+booked t (Call.membership p buffer) w = quietly t _ (λ _. refl) (λ _. record { machine = refl; groups = refl; places = refl })
 
 pub same-enter : (t : Tree) (b : Book) (c : Call) → WellFormed t → Same t b → Same (effect t c) (enter b c)
-same-enter t b c w s = subst (λ (x : Book). Same (effect t c) (enter x c)) (book-with-same t b s) (same-effect t (b .mark) c w)
+same-enter t b c w s = subst (λ (x : Book). Same (effect t c) (enter x c)) (book-with-same t b s) (booked t c w .same (b .mark))
 
 -- No step for a refused call.
 book-refused : (b : Book) (c : Call) (e : Errno) → bookStep b c (errnoNumber e) ≡ b

@@ -1,37 +1,39 @@
 -- Limits hold: an accepted charge or fork leaves no group on the way up over its limit, and a group with a page limit has at
 -- most the larger of the limit and its mark. Assumes nothing.
-use Prim.Native.Nat.{ℕ, _+_, _-_, _≤_, _<_, max}
+use Prim.Native.Nat.{ℕ, suc, _+_, _≤_, max}
 use native.Mathlib.Omega.{arith}
 use mathlib.Core.Bool.{true, false}
 use mathlib.Core.List.{List}
-use mathlib.Core.Logic.{_≢_, _⊎_, inl, inr, ⊎-elim}
+use mathlib.Core.Logic.{_⊎_, inl, inr, ⊎-elim}
 use mathlib.Core.Option.{Option, none, some}
-use mathlib.Core.Path.{_≡_, refl, ap, sym, _∙_, fun-ext}
-use borrow.Author.Tests.{eqb-false, leb-false, ltb-false}
-use Rattle.model.specs.Functions.{upd, weigh}
-use Rattle.model.specs.Sizes.{groups}
+use mathlib.Core.Path.{_≡_, refl, ap, sym, _∙_, fun-ext, subst, subst₂}
+use borrow.Author.Tests.{leb-false}
+use Rattle.model.specs.Functions.{upd}
 use Rattle.model.specs.Checks.{Pass}
-use Rattle.model.specs.Tree.{groupOf, Tree, Core, at, nowhere, controllerOf, noCore, newCore, withOwn, withLimits, withLimit, cores, lives, parents, places}
+use Rattle.model.specs.Tree.{groupOf, Tree, Core, Group, at, nowhere, controllerOf, noGroup, newGroup, withLimits, withLimit, atGroup, cores, lives, parents, depths, places}
 use Rattle.model.specs.Hierarchy.{inside, ownPages, usage, population, amount, childOf, factsOf}
 use Rattle.model.specs.Control.{asked, isDropped}
 use Rattle.model.specs.Settings.{SettingValue, weight, bandwidth, maximum}
 use Rattle.model.specs.Rooms.{over, actingLimit}
-use Rattle.model.specs.Rules.{processGroup, hasChild, hasProcess}
-use Rattle.model.specs.Calls.{Call, make, remove, handOver, writeProcs, writeControl, writeSetting, admit, fork, exit, charge, release, read, membership, lineValue, chargeChecks, forkChecks, checks}
-use Rattle.model.specs.Effects.{charged, effect}
-use Rattle.model.specs.Book.{limitsAfter, childAfter, enterValue, enter}
+use Rattle.model.specs.Rules.{processGroup, leaving}
+use Rattle.model.specs.Calls.{Call, lineValue, chargeChecks, forkChecks, checks}
+use Rattle.model.specs.Effects.{charged, removed, newSet, controlled, effect}
+use Rattle.model.specs.Book.{childAfter, enterValue, enter}
 use Rattle.model.specs.WellFormed.{WellFormed}
 use Rattle.model.specs.Demands.{Adds, byCharge, byFork, byAdmit}
 use Rattle.model.specs.declared.Resource.{Resource}
 use Rattle.model.specs.declared.Resource.the-variants.{Pages, Processes}
 use Rattle.model.specs.declared.Limit.{Limit}
 use Rattle.model.specs.declared.Limit.the-variants.{NoLimit, Figure}
-use Rattle.model.proofs.FunctionLaws.{split, whether, upd-same, upd-other, upd-map, upd-keeps, weigh-yes, weigh-no}
+use Rattle.model.proofs.FunctionLaws.{split, whether, upd-same, upd-other, upd-map, upd-keeps, upd-all, weigh-yes, weigh-no}
 use Rattle.model.proofs.ChainLaws.{inside-live, inside-root}
-use Rattle.model.proofs.AmountLaws.{place-live, place-free, usage-same, usage-after-charge, usage-after-release, population-after-birth, amount-after-make, amount-after-remove}
+use Rattle.model.proofs.AmountLaws.{place-live, place-free, usage-same, usage-after-charge, population-after-birth, amount-after-make, amount-after-remove}
 use Rattle.model.proofs.RoomLaws.{room-on-chain, root-limit-none, own-limit-holds, over-figure, no-figure}
-use Rattle.model.proofs.Steps.{no-child, no-process, process-lives}
-use Rattle.model.proofs.Books.{bookWith}
+use Rattle.model.proofs.Preservation.{usage-after-patch, cores-after-remove}
+use Rattle.model.proofs.ControlPreservation.{amount-after-control}
+use Rattle.model.proofs.Changes.{WritesSetting, Flowed, still, came, went, RoomAbove, Altering, Making, Removing, Change, nothing, placed, altered, made, removal, control}
+use Rattle.model.proofs.Steps.{process-lives, change}
+use Rattle.model.proofs.Books.{cores-after-control, bookWith, booked}
 
 -- An accepted charge or fork, of a process in g: every group on the way up had room for what it now holds.
 module _ (t : Tree) (w : WellFormed t) (r : Resource) (n g a : ℕ) (i : inside (parents t) a g ≡ true) (lg : lives t g ≡ true)
@@ -48,7 +50,7 @@ within-after-add t w r p c (byCharge {n = n}) k a i =
     let lg : lives t g ≡ true = process-lives t w p (search) in
     let j : inside (parents t) a g ≡ true =
     rw (fun-ext (upd-keeps (λ x. x .core .parent) (t .group) g (charged n (t .group g)) refl)) at i in
-    let u : usage (cores (effect t (charge p n))) a ≡ usage (cores t) a + n =
+    let u : usage (cores (effect t (Call.charge p n))) a ≡ usage (cores t) a + n =
     ap (λ s. usage s a) (upd-map (λ x. x .core) (t .group) g _) ∙ usage-after-charge (cores t) g n (w .sound .range g lg) lg a
     ∙ ap (λ x. usage (cores t) a + x) (weigh-yes _ n j) in
     rw (upd-keeps (λ x. x .core .limit Pages) (t .group) g (charged n (t .group g)) refl a)
@@ -60,7 +62,7 @@ within-after-add t w r p c (byFork {parent = parent}) k a i =
     let free : places t p ≡ nowhere = place-free (places t p) (search) in
     let j : inside (parents t) a g ≡ true =
     sym (ap (λ x. inside (parents t) a (groupOf (x .place))) (upd-same (t .process) p (t .process parent))) ∙ i in
-    let u : population (cores t) (places (effect t (fork parent p))) a ≡ population (cores t) (places t) a + 1 =
+    let u : population (cores t) (places (effect t (Call.fork parent p))) a ≡ population (cores t) (places t) a + 1 =
     ap (λ x. population (cores t) x a) (upd-map (λ x. x .place) (t .process) p (t .process parent) ∙ ap (upd (places t) p) here)
     ∙ population-after-birth (cores t) (places t) p g a (omega (arith, leb-false)) free
     ∙ ap (λ x. population (cores t) (places t) a + x) (weigh-yes _ 1 j) in
@@ -74,24 +76,16 @@ within-after-add t w r p c (byAdmit {user = user}) k a i =
 abbrev pub Marked : (ℕ → Core) → (ℕ → ℕ) → Type 0
 Marked s mark = (g l : ℕ) → s g .live ≡ true → s g .limit Pages ≡ Figure l → usage s g ≤ max l (mark g)
 
--- usage falls or stays where a limit stays
-marked-falls : (s s′ : ℕ → Core) (mark : ℕ → ℕ) → Marked s mark
-    → ((a : ℕ) → s′ a .live ≡ true
-    → (s′ a .limit Pages ≡ NoLimit) ⊎ ((s a .live ≡ true) × (s′ a .limit Pages ≡ s a .limit Pages) × (usage s′ a ≤ usage s a)))
-    → Marked s′ mark
-marked-falls s s′ mark q f a l v e =
-    ⊎-elim
-    (λ n. no-figure _ l n e)
-    (λ (k : (s a .live ≡ true) × (s′ a .limit Pages ≡ s a .limit Pages) × (usage s′ a ≤ usage s a)). omega (arith, k .2, q a l (k .0) (sym (k .1) ∙ e)))
-    (f a v)
-
 -- hierarchy and pages stay, and a limit stays or goes
 marked-frame : (s s′ : ℕ → Core) (mark : ℕ → ℕ) → Marked s mark
     → ((g : ℕ) → s′ g .live ≡ s g .live) → ((g : ℕ) → s′ g .parent ≡ s g .parent) → ((g : ℕ) → s′ g .own ≡ s g .own)
     → ((g : ℕ) → (s′ g .limit Pages ≡ NoLimit) ⊎ (s′ g .limit Pages ≡ s g .limit Pages)) → Marked s′ mark
-marked-frame s s′ mark q l p o f =
-    let u : ((a : ℕ) → usage s′ a ≡ usage s a) = usage-same s s′ p (λ g. rw (l g, o g)) in
-    marked-falls s s′ mark q (λ a v. ⊎-elim (λ n. inl n) (λ e. inr (sym (l a) ∙ v, e, omega (arith, u a))) (f a))
+marked-frame s s′ mark q l p o f a x v e =
+    ⊎-elim
+    (λ n. no-figure _ x n e)
+    (λ (k : s′ a .limit Pages ≡ s a .limit Pages).
+    omega (arith, usage-same s s′ p (λ g. rw (l g, o g)) a, q a x (sym (l a) ∙ v) (sym k ∙ e)))
+    (f a)
 
 -- a limit of pages is written, and the mark is no less than what the group has
 marked-write : (s : ℕ → Core) (mark : ℕ → ℕ) (g : ℕ) (l : Limit) (k : ℕ) → usage s g ≤ k → Marked s mark
@@ -105,29 +99,100 @@ marked-write s mark g l k h q a m v e =
     (λ ne. rw (upd-other mark g _ a ne)
     (omega (arith, u a, q a m (rw (upd-other s g x a ne) at v) (rw (upd-other s g x a ne) at e))))
 
--- pages are charged to g, and no group on the way up passes its limit
-marked-charge : (s : ℕ → Core) (mark : ℕ → ℕ) (g n : ℕ) → g < groups → s g .live ≡ true → Marked s mark
-    → ((a l : ℕ) → s a .live ≡ true → inside (λ k. s k .parent) a g ≡ true → s a .limit Pages ≡ Figure l → usage s a + n ≤ l)
-    → Marked (upd s g (withOwn (s g .own + n) (s g))) mark
-marked-charge s mark g n r lv q f a l v e =
-    let x : Core = withOwn (s g .own + n) (s g) in
-    let u : usage (upd s g x) a ≡ usage s a + weigh (inside (λ k. s k .parent) a g) n = usage-after-charge s g n r lv a in
-    let v′ : s a .live ≡ true = sym (upd-keeps (λ c. c .live) s g x refl a) ∙ v in
-    let e′ : s a .limit Pages ≡ Figure l = sym (upd-keeps (λ c. c .limit Pages) s g x refl a) ∙ e in
-    split (inside (λ k. s k .parent) a g)
-    (λ i. omega (arith, u, weigh-yes _ n i, f a l v′ i e′))
-    (λ i. omega (arith, u, weigh-no _ n i, q a l v′ e′))
-
 -- what a control line leaves of a child
 module _ (g : ℕ) (line : List ℕ) (k : ℕ) (c : Core) where
-  child-after : {A : Type 0} (F : Core → A) → ((l : Resource → Limit) → F (withLimits l c) ≡ F c) → F (childAfter g line k c) ≡ F c
-  child-after F e = split (childOf g k c) (λ y. ap F (rw (y, childAfter)) ∙ e (limitsAfter line (c .limit))) (λ n. ap F (rw (n, childAfter)))
-
   pub child-limit-after : (childAfter g line k c .limit Pages ≡ NoLimit) ⊎ (childAfter g line k c .limit Pages ≡ c .limit Pages)
   child-limit-after =
       split (childOf g k c)
       (λ y. rw (y, childAfter) (split (isDropped (asked line (controllerOf Pages))) (λ d. inl (rw d)) (λ d. inr (rw d))))
       (λ n. rw (n, childAfter) (inr refl))
+
+-- Limits of pages after a change: none is new, and a group that has one holds no more than before or no more than the limit.
+pub record Limited (t u : Tree) : Type 0 where
+  pub kept : (g l : ℕ) → u .group g .core .limit Pages ≡ Figure l → t .group g .core .limit Pages ≡ Figure l
+  pub bound : (g l : ℕ) → u .group g .core .limit Pages ≡ Figure l
+      → (usage (cores u) g ≤ usage (cores t) g) ⊎ (usage (cores u) g ≤ l)
+
+module _ (t : Tree) (w : WellFormed t) where
+  -- a group with a limit is live
+  limited-live : (g l : ℕ) → t .group g .core .limit Pages ≡ Figure l → lives t g ≡ true
+  limited-live g l e =
+      split (lives t g) (λ y. y) (λ n. no-figure _ l (ap (λ x. x .core .limit Pages) (w .blank .dead g n)) e)
+
+  -- own pages come only where there is room for them
+  bound-inside : {c : Call} (g a l b : ℕ) {n m : ℕ} → Flowed c Pages (RoomAbove t g) n m → inside (parents t) a g ≡ true
+      → t .group a .core .limit Pages ≡ Figure l → b + n ≡ usage (cores t) a + m → (b ≤ usage (cores t) a) ⊎ (b ≤ l)
+  bound-inside g a l b (still f e) i k h = inl (omega arith)
+  bound-inside g a l b (came x f e room) i k h =
+      inr (omega (arith, over-figure _ l _ (own-limit-holds t w Pages a (usage (cores t) a + x) (limited-live a l k) (room a i)) k))
+  bound-inside g a l b (went x f e) i k h = inl (omega arith)
+
+  limited-altered : {c : Call} (g : ℕ) (v : Group) → Altering t c g v → v .core .limit Pages ≡ t .group g .core .limit Pages → Limited t (atGroup t g v)
+  limited-altered g v k same =
+      let kept : ((a l : ℕ) → atGroup t g v .group a .core .limit Pages ≡ Figure l → t .group a .core .limit Pages ≡ Figure l) =
+      (λ a l e. sym (upd-keeps (λ x. x .core .limit Pages) (t .group) g v same a) ∙ e) in
+      record {
+        kept = kept;
+        bound = λ a l e.
+            let u = usage-after-patch t w g v (k .patch) a in
+            split (inside (parents t) a g)
+            (λ i. bound-inside g a l _ (k .pages) i (kept a l e) (omega (arith, u, weigh-yes _ (t .group g .core .own) i, weigh-yes _ (v .core .own) i)))
+            (λ i. inl (omega (arith, u, weigh-no _ (t .group g .core .own) i, weigh-no _ (v .core .own) i)));
+      }
+
+  limited-made : (user parent new : ℕ) → Making t user parent new → Limited t (atGroup t new (newGroup parent (suc (depths t parent)) user))
+  limited-made user parent new k =
+      record {
+        kept = λ a l.
+            upd-all (λ j x. x .core .limit Pages ≡ Figure l → t .group j .core .limit Pages ≡ Figure l) (t .group) new _
+            (λ e. no-figure NoLimit l refl e) (λ j _ e. e) a;
+        bound = λ a l e. inl (omega (
+          arith,
+          ap (λ s. usage s a) (upd-map (λ x. x .core) (t .group) new (newGroup parent (suc (depths t parent)) user)),
+          amount-after-make (cores t) (places t) (depths t) (w .sound) (w .placed) Pages new parent a (k .dead),
+        ));
+      }
+
+  limited-removed : (g : ℕ) → Removing t g → Limited t (removed t g)
+  limited-removed g k =
+      record {
+        kept = λ a l.
+            upd-all (λ j x. x .core .limit Pages ≡ Figure l → t .group j .core .limit Pages ≡ Figure l) _ g noGroup
+            (λ e. no-figure NoLimit l refl e)
+            (λ j _. upd-all (λ j x. x .core .limit Pages ≡ Figure l → t .group j .core .limit Pages ≡ Figure l) (t .group) (parents t g) _
+            (λ e. e) (λ i _ e. e) j) a;
+        bound = λ a l e.
+            whether a g
+            (λ d. no-figure _ l (ap (λ x. x .core .limit Pages) (upd-same _ g noGroup)) (rw d at e))
+            (λ ne. inl (omega (
+              arith,
+              ap (λ s. usage s a) (cores-after-remove t g),
+              amount-after-remove (cores t) (places t) (depths t) (w .sound) (w .placed) g (k .alive) (k .inner) (k .noChild) (k .noProcess) Pages a ne,
+            )));
+      }
+
+  limited-control : (g : ℕ) (line : List ℕ) → Limited t (controlled t g (newSet t g line) (leaving t g line))
+  limited-control g line =
+      record {
+        kept = λ a l e.
+            let f : childAfter g line a (cores t a) .limit Pages ≡ Figure l = ap (λ c. c .limit Pages) (sym (cores-after-control t w g line a)) ∙ e in
+            ⊎-elim (λ x. no-figure _ l x f) (λ x. sym x ∙ f) (child-limit-after g line a (cores t a));
+        bound = λ a l e. inl (omega (arith, amount-after-control t g (newSet t g line) (leaving t g line) Pages a));
+      }
+
+  pub limited-change : {c : Call} {u : Tree} → Change t c u → Limited t u ⊎ WritesSetting c
+  limited-change (nothing f) = inl (record { kept = λ a l e. e; bound = λ a l e. inl (omega arith) })
+  limited-change (placed p v k) = inl (record { kept = λ a l e. e; bound = λ a l e. inl (omega arith) })
+  limited-change {c} (altered g v k) =
+      ⊎-elim (λ same. inl (limited-altered g v k same)) (λ (s : WritesSetting c). inr s) (k .limit)
+  limited-change (made user parent new f k) = inl (limited-made user parent new k)
+  limited-change (removal g f k) = inl (limited-removed g k)
+  limited-change (control g line f k) = inl (limited-control g line)
+
+  marked-limited : (u : Tree) (mark : ℕ → ℕ) → Limited t u → Marked (cores t) mark → Marked (cores u) mark
+  marked-limited u mark k q a l v e =
+      let m : usage (cores t) a ≤ max l (mark a) = q a l (limited-live a l (k .kept a l e)) (k .kept a l e) in
+      ⊎-elim (λ (x : usage (cores u) a ≤ usage (cores t) a). omega arith) (λ (x : usage (cores u) a ≤ l). omega arith) (k .bound a l e)
 
 module _ (t : Tree) (mark : ℕ → ℕ) (w : WellFormed t) (q : Marked (cores t) mark) where
   marked-value : (g : ℕ) (v : Option SettingValue) → Marked (enterValue (bookWith t mark) g v .group) (enterValue (bookWith t mark) g v .mark)
@@ -140,62 +205,17 @@ module _ (t : Tree) (mark : ℕ → ℕ) (w : WellFormed t) (q : Marked (cores t
       (upd-keeps (λ c. c .live) (cores t) g _ refl) (upd-keeps (λ c. c .parent) (cores t) g _ refl) (upd-keeps (λ c. c .own) (cores t) g _ refl)
       (λ a. inr (upd-keeps (λ c. c .limit Pages) (cores t) g _ refl a))
 
-  marked-make : (new p : ℕ) → lives t new ≡ false → Marked (upd (cores t) new (newCore p)) mark
-  marked-make new p dead =
-      marked-falls (cores t) _ mark q
-      (λ a v. whether a new
-      (λ e. inl (rw (e, upd-same)))
-      (λ ne. inr (
-        rw (upd-other (cores t) new (newCore p) a ne) at v,
-        ap (λ c. c .limit Pages) (upd-other (cores t) new (newCore p) a ne),
-        omega (arith, amount-after-make (cores t) (places t) (λ g. t .group g .depth) (w .sound) (w .placed) Pages new p a dead),
-      )))
-
-  marked-remove : (g : ℕ) → lives t g ≡ true → g ≢ 0 → hasChild t g ≡ false → hasProcess t g ≡ false
-      → Marked (upd (upd (cores t) (parents t g) (withOwn (t .group (parents t g) .core .own + t .group g .core .own) (cores t (parents t g)))) g noCore) mark
-  marked-remove g lg gz hc hp =
-      let v : Core = withOwn (t .group (parents t g) .core .own + t .group g .core .own) (cores t (parents t g)) in
-      let s : ℕ → Core = upd (cores t) (parents t g) v in
-      marked-falls (cores t) _ mark q
-      (λ a l. whether a g
-      (λ e. inl (rw (e, upd-same)))
-      (λ ne. inr (
-        sym (upd-keeps (λ c. c .live) (cores t) (parents t g) v refl a) ∙ rw (upd-other s g noCore a ne) at l,
-        ap (λ c. c .limit Pages) (upd-other s g noCore a ne) ∙ upd-keeps (λ c. c .limit Pages) (cores t) (parents t g) v refl a,
-        omega (arith, amount-after-remove (cores t) (places t) (λ g. t .group g .depth) (w .sound) (w .placed) g lg gz (no-child t w g hc) (no-process t w g hp) Pages a ne),
-      )))
-
-  marked-release : (g n : ℕ) → lives t g ≡ true → n ≤ t .group g .core .own → Marked (upd (cores t) g (withOwn (t .group g .core .own - n) (cores t g))) mark
-  marked-release g n lg h =
-      marked-falls (cores t) _ mark q
-      (λ a l. inr (
-        sym (upd-keeps (λ c. c .live) (cores t) g _ refl a) ∙ l,
-        upd-keeps (λ c. c .limit Pages) (cores t) g _ refl a,
-        omega (arith, usage-after-release (cores t) g n (w .sound .range g lg) lg h a),
-      ))
+  marked-setting : (c : Call) → WritesSetting c → Marked (enter (bookWith t mark) c .group) (enter (bookWith t mark) c .mark)
+  unfolding enter
+  marked-setting c s =
+      subst (λ (x : Call). Marked (enter (bookWith t mark) x .group) (enter (bookWith t mark) x .mark)) (sym (s .call))
+      (marked-value (s .group) (lineValue (s .file) (s .line)))
 
   pub marked-enter : (c : Call) → Pass (checks (factsOf t) c) → Marked (enter (bookWith t mark) c .group) (enter (bookWith t mark) c .mark)
-  unfolding enter checks Pass chargeChecks forkChecks
-  marked-enter (make user parent new) k = marked-make new parent (search)
-  marked-enter (remove user g) k = marked-remove g (search) (eqb-false g 0 (search)) (search) (search)
-  marked-enter (handOver user g owner) k = q
-  marked-enter (writeProcs user g line) k = q
-  marked-enter (writeControl user g line) k =
-      marked-frame (cores t) _ mark q
-      (λ j. child-after g line j (cores t j) (λ c. c .live) (λ _. refl))
-      (λ j. child-after g line j (cores t j) (λ c. c .parent) (λ _. refl))
-      (λ j. child-after g line j (cores t j) (λ c. c .own) (λ _. refl))
-      (λ j. child-limit-after g line j (cores t j))
-  marked-enter (writeSetting user g file line) k = marked-value g (lineValue file line)
-  marked-enter (admit p user) k = q
-  marked-enter (fork p new) k = q
-  marked-enter (exit p) k = q
-  marked-enter (charge p n) k =
-      let g : ℕ = processGroup t p in
-      let lg : lives t g ≡ true = process-lives t w p (search) in
-      marked-charge (cores t) mark g n (w .sound .range g lg) lg q
-      (λ a l la i e. over-figure _ l _
-      (own-limit-holds t w Pages a (usage (cores t) a + n) la (room-on-chain (factsOf t) Pages n g (search) a i)) e)
-  marked-enter (release g n) k = marked-release g n (search) (omega (arith, ltb-false))
-  marked-enter (read g file buffer) k = q
-  marked-enter (membership p buffer) k = q
+  marked-enter c k =
+      let b = booked t c w in
+      ⊎-elim
+      (λ (stay : (m : ℕ → ℕ) → enter (bookWith t m) c .mark ≡ m). ⊎-elim
+      (λ (l : Limited t (effect t c)). subst₂ Marked (b .same mark .groups) (sym (stay mark)) (marked-limited t w (effect t c) mark l q))
+      (marked-setting c) (limited-change t w (change t c w k)))
+      (marked-setting c) (b .marks)

@@ -1,20 +1,21 @@
 -- A well-formed tree stays well formed under each kind of change that a call makes: a group changed in place, a process put
 -- somewhere, a group made, a group removed, a control set written. Assumes nothing.
-use Prim.Native.Nat.{ℕ, suc, _≤_, _<_}
-use mathlib.Core.Bool.{true, false}
+use Prim.Native.Nat.{ℕ, suc, _+_, _≤_, _<_}
+use native.Mathlib.Omega.{arith}
+use mathlib.Core.Bool.{Bool, true, false}
 use mathlib.Core.Logic.{_≢_, inl, inr}
 use mathlib.Core.Path.{_≡_, refl, ap, sym, _∙_, fun-ext}
-use Rattle.model.specs.Functions.{upd}
+use Rattle.model.specs.Functions.{upd, weigh}
 use Rattle.model.specs.Sizes.{groups, processes, deepest}
 use Rattle.model.specs.Tree.{Tree, Group, Process, nowhere, at, settingsOf, noCore, noControls, noGroup, noProcess, newGroup, atGroup, atProcess, cores, lives, parents, depths, owners, sets, settingsAt, places}
-use Rattle.model.specs.Hierarchy.{onIn, usage}
+use Rattle.model.specs.Hierarchy.{onIn, inside, ownPages, usage}
 use Rattle.model.specs.Settings.{AtDefault, Allowed}
 use Rattle.model.specs.WellFormed.{WellFormed}
 use Rattle.model.specs.Effects.{charged, removed}
 use Rattle.model.specs.declared.Controller.{Controller}
 use Rattle.model.specs.declared.Resource.the-variants.{Pages}
-use Rattle.model.proofs.FunctionLaws.{whether, clash, upd-same, upd-other, upd-map, upd-keeps, upd-all}
-use Rattle.model.proofs.AmountLaws.{amount-after-make, amount-after-remove}
+use Rattle.model.proofs.FunctionLaws.{whether, clash, upd-same, upd-other, upd-map, upd-keeps, upd-all, weigh-yes}
+use Rattle.model.proofs.AmountLaws.{usage-change, amount-after-make, amount-after-remove}
 use Rattle.model.proofs.RuleLaws.{NoChild, sound-eq, placed-eq, top-down-eq, defaults-eq, ranges-eq, quiet-eq, sound-after-make, placed-after-make, top-down-after-make, sound-after-remove, placed-after-remove, top-down-after-remove, placed-after-put, quiet-after-put, quiet-after-set, ranges-after-put, ranges-live, defaults-frame, defaults-after-put}
 
 -- what may change in a live group without a change to the hierarchy
@@ -28,6 +29,20 @@ pub record Patch (t : Tree) (g : ℕ) (v : Group) : Type 0 where
   pub defaults : (c : Controller) → onIn (parents t) (sets t) c g ≡ false → AtDefault c (settingsOf v)
   pub ranges : Allowed (settingsOf v)
   pub fits : usage (upd (cores t) g (v .core)) 0 ≤ t .machine
+
+-- usage after it: own pages before it and after it, in every group that it is inside
+pub usage-after-patch : (t : Tree) → WellFormed t → (g : ℕ) (v : Group) → Patch t g v → (a : ℕ)
+    → usage (cores (atGroup t g v)) a + weigh (inside (parents t) a g) (t .group g .core .own)
+    ≡ usage (cores t) a + weigh (inside (parents t) a g) (v .core .own)
+usage-after-patch t w g v k a =
+    let b : Bool = inside (parents t) a g in
+    let old : weigh b (ownPages (cores t g)) ≡ weigh b (t .group g .core .own) = ap (weigh b) (weigh-yes _ _ (k .alive)) in
+    let new : weigh b (ownPages (v .core)) ≡ weigh b (v .core .own) = ap (weigh b) (weigh-yes _ _ (k .live)) in
+    omega (
+      arith,
+      ap (λ s. usage s a) (upd-map (λ x. x .core) (t .group) g v),
+      usage-change (cores t) g (v .core) (w .sound .range g (k .alive)) (k .parent) a,
+    )
 
 pub cores-after-remove : (t : Tree) (g : ℕ)
     → cores (removed t g) ≡ upd (upd (cores t) (parents t g) (charged (t .group g .core .own) (t .group (parents t g)) .core)) g noCore

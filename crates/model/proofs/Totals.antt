@@ -10,7 +10,7 @@ use borrow.Author.Tests.{ne-eqb}
 use Rattle.model.specs.Functions.{weigh}
 use Rattle.model.specs.Checks.{answerNumber}
 use Rattle.model.specs.Tree.{Tree, Group, Process, Place, nowhere, at, groupOf, atGroup, atProcess, cores, lives, parents, depths, places}
-use Rattle.model.specs.Hierarchy.{inside, ownPages, headcount, usage, population, amount}
+use Rattle.model.specs.Hierarchy.{inside, headcount, population, amount}
 use Rattle.model.specs.Rules.{leaving}
 use Rattle.model.specs.Calls.{Call}
 use Rattle.model.specs.Effects.{newSet, step, run}
@@ -23,8 +23,8 @@ use Rattle.model.specs.declared.Resource.the-variants.{Pages, Processes}
 use Rattle.model.proofs.FunctionLaws.{upd-map, upd-keeps, weigh-yes, weigh-no, weigh-zero}
 use Rattle.model.proofs.CheckLaws.{errno-positive}
 use Rattle.model.proofs.ChainLaws.{root-inside}
-use Rattle.model.proofs.AmountLaws.{usage-change, population-same, population-change, amount-after-make, amount-after-remove}
-use Rattle.model.proofs.Preservation.{Patch, cores-after-remove}
+use Rattle.model.proofs.AmountLaws.{population-same, population-change, amount-after-make, amount-after-remove}
+use Rattle.model.proofs.Preservation.{Patch, usage-after-patch, cores-after-remove}
 use Rattle.model.proofs.ControlPreservation.{amount-after-control}
 use Rattle.model.proofs.Changes.{Flowed, still, came, went, Placing, Change, nothing, placed, altered, made, removal, control}
 use Rattle.model.proofs.Steps.{step-accepted, step-refused, by-verdict, passed, change, well-formed-step}
@@ -79,12 +79,9 @@ module _ (t : Tree) (w : WellFormed t) where
   held-altered g v k Pages =
       omega (
         arith,
-        ap (λ s. usage s 0) (upd-map (λ x. x .core) (t .group) g v),
-        usage-change (cores t) g (v .core) (w .sound .range g (k .alive)) (k .parent) 0,
-        in-root g (ownPages (cores t g)) (k .alive),
-        in-root g (ownPages (v .core)) (k .alive),
-        weigh-yes (lives t g) (t .group g .core .own) (k .alive),
-        weigh-yes (v .core .live) (v .core .own) (k .live),
+        usage-after-patch t w g v k 0,
+        in-root g (t .group g .core .own) (k .alive),
+        in-root g (v .core .own) (k .alive),
       )
   held-altered g v k Processes =
       ap (λ n. n + 0) (population-same (cores t) _ (places t) (upd-keeps (λ x. x .core .parent) (t .group) g v (k .parent)) 0)
