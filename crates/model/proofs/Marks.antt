@@ -1,21 +1,21 @@
 -- The mark of a group is the usage that it had right after the last accepted write of memory.max to it: no other call moves it, and
 -- no other call gives a page limit. Assumes nothing.
-use Prim.Native.Nat.{ℕ}
+use Prim.Native.Nat.{ℕ, suc, _+_}
 use native.Mathlib.Omega.{arith}
-use mathlib.Core.Bool.{Bool, true, false}
+use mathlib.Core.Bool.{true, false}
 use mathlib.Core.List.{List, [], _∷_}
 use mathlib.Core.Logic.{_≢_, _⊎_, inl, inr, ⊎-elim}
 use mathlib.Core.Option.{Option, none, some}
-use mathlib.Core.Path.{_≡_, refl, ap, ap₂, sym, _∙_}
+use mathlib.Core.Path.{_≡_, refl, ap, ap₂, sym, _∙_, subst}
 use Rattle.model.specs.Functions.{upd, known}
 use Rattle.model.specs.Checks.{Pass, answerNumber}
 use Rattle.model.specs.Tree.{Tree, Core, cores, places}
-use Rattle.model.specs.Hierarchy.{usage, factsOf}
+use Rattle.model.specs.Hierarchy.{usage}
 use Rattle.model.specs.Text.{bytes, lineWords}
 use Rattle.model.specs.Names.{settings, settingName, settingNamed}
 use Rattle.model.specs.Settings.{SettingValue, weight, bandwidth, maximum}
-use Rattle.model.specs.Calls.{Call, make, remove, handOver, writeProcs, writeControl, writeSetting, admit, fork, exit, charge, release, read, membership, settingValue, lineValue, checks, verdict}
-use Rattle.model.specs.Effects.{effect, step, run}
+use Rattle.model.specs.Calls.{Call, settingValue, lineValue, checks, verdict}
+use Rattle.model.specs.Effects.{effect, step}
 use Rattle.model.specs.Replies.{reply}
 use Rattle.model.specs.Book.{Book, enterValue, enter, bookStep, bookOf, fed}
 use Rattle.model.specs.WellFormed.{WellFormed}
@@ -23,20 +23,20 @@ use Rattle.model.specs.Lists.{log, bookAfter, Each, Never, Last}
 use Rattle.model.specs.Marks.{SetsMemoryMax, AtLastWrite, AtStart, MarkIs}
 use Rattle.model.specs.declared.Resource.the-variants.{Pages, Processes}
 use Rattle.model.specs.declared.Limit.{Limit}
-use Rattle.model.specs.declared.Limit.the-variants.{NoLimit, Figure}
+use Rattle.model.specs.declared.Limit.the-variants.{Figure}
 use Rattle.model.specs.declared.Setting.{Setting}
 use Rattle.model.specs.declared.Setting.the-variants.{Max}
 use Rattle.model.specs.declared.Errno.{Errno}
 use Rattle.model.specs.declared.Answer.the-variants.{Done, Refused}
-use Rattle.model.proofs.FunctionLaws.{whether, clash, upd-same, upd-other}
+use Rattle.model.proofs.FunctionLaws.{whether, clash, upd-same, upd-other, upd-keeps}
 use Rattle.model.proofs.CheckLaws.{errno-positive}
 use Rattle.model.proofs.NameLaws.{named-name, settingNamed-settingName}
 use Rattle.model.proofs.SettingLaws.{settingOf, settingOf-valueOf}
 use Rattle.model.proofs.SettingPreservation.{amount-after-setting}
-use Rattle.model.proofs.RoomLaws.{no-figure}
-use Rattle.model.proofs.Steps.{step-accepted, step-refused, by-verdict, passed}
-use Rattle.model.proofs.Books.{reply-number, book-step-accepted, book-step-refused}
-use Rattle.model.proofs.Bounds.{child-limit-after}
+use Rattle.model.proofs.Changes.{WritesSetting}
+use Rattle.model.proofs.Steps.{step-accepted, by-verdict, passed, change}
+use Rattle.model.proofs.Books.{reply-number, bookWith, book-with-same, booked, same-enter, book-step-accepted, book-step-refused}
+use Rattle.model.proofs.Bounds.{Limited, limited-change}
 use Rattle.model.proofs.States.{State, state-begin, state-step}
 
 -- The file whose line gave a value is the value's own.
@@ -47,44 +47,14 @@ file-of-value file line v e = go (settingNamed file) refl e
     go none n h = let z : _≡_ {A = ℕ} 0 1 = cc in absurd (omega arith)
     go (some s) n h = named-name settingName file settings s n ∙ ap settingName (sym (settingOf-valueOf s (lineWords line) v h))
 
--- Which calls write a setting at all.
-abbrev writesSetting : Call → Bool
-writesSetting (make user parent new) = false
-writesSetting (remove user g) = false
-writesSetting (handOver user g owner) = false
-writesSetting (writeProcs user g line) = false
-writesSetting (writeControl user g line) = false
-writesSetting (writeSetting user g file line) = true
-writesSetting (admit p user) = false
-writesSetting (fork p new) = false
-writesSetting (exit p) = false
-writesSetting (charge p n) = false
-writesSetting (release g n) = false
-writesSetting (read g file buffer) = false
-writesSetting (membership p buffer) = false
-
--- A limit that a change of one group leaves or takes away stood there before.
+-- A limit of g that stands afterwards stood there before.
 abbrev Kept : (ℕ → Core) → (ℕ → Core) → ℕ → Type 0
 Kept s s′ g = (l : ℕ) → s′ g .limit Pages ≡ Figure l → s g .limit Pages ≡ Figure l
 
-kept-taken : (s : ℕ → Core) (i : ℕ) (v : Core) → v .limit Pages ≡ NoLimit → (g : ℕ) → Kept s (upd s i v) g
-kept-taken s i v e g l h =
-    whether g i
-    (λ d. no-figure _ l e (ap (λ c. c .limit Pages) (sym (upd-same s i v)) ∙ rw d at h))
-    (λ ne. ap (λ c. c .limit Pages) (sym (upd-other s i v g ne)) ∙ h)
-
 kept-left : (s : ℕ → Core) (i : ℕ) (v : Core) → v .limit Pages ≡ s i .limit Pages → (g : ℕ) → Kept s (upd s i v) g
-kept-left s i v e g l h =
-    whether g i
-    (λ d. rw d (sym e ∙ ap (λ c. c .limit Pages) (sym (upd-same s i v)) ∙ rw d at h))
-    (λ ne. ap (λ c. c .limit Pages) (sym (upd-other s i v g ne)) ∙ h)
+kept-left s i v e g l h = sym (upd-keeps (λ c. c .limit Pages) s i v e g) ∙ h
 
 module _ (b : Book) (g : ℕ) where
-  -- an accepted call that leaves the mark of g, and gives it no limit
-  record Leaves (c : Call) : Type 0 where
-    mark : enter b c .mark g ≡ b .mark g
-    limit : Kept (b .group) (enter b c .group) g
-
   -- a value written to h
   value-left : (h : ℕ) (v : Option SettingValue) → ((l : Limit) → v ≡ some (maximum Pages l) → h ≡ g → ⊥)
       → (enterValue b h v .mark g ≡ b .mark g) × Kept (b .group) (enterValue b h v .group) g
@@ -95,30 +65,6 @@ module _ (b : Book) (g : ℕ) where
       let ne : g ≢ h = (λ e. n x refl (sym e)) in
       (upd-other (b .mark) h _ g ne, λ l e. ap (λ c. c .limit Pages) (sym (upd-other (b .group) h _ g ne)) ∙ e)
   value-left h (some (maximum Processes x)) n = (refl, kept-left (b .group) h _ refl g)
-
-  call-left : (c : Call) → writesSetting c ≡ false → Leaves c
-  unfolding enter
-  call-left (make user parent new) n = record { mark = refl; limit = kept-taken (b .group) new _ refl g }
-  call-left (remove user h) n =
-      record {
-        mark = refl;
-        limit = λ l e. kept-left (b .group) (b .group h .parent) _ refl g l (kept-taken _ h _ refl g l e);
-      }
-  call-left (handOver user h owner) n = record { mark = refl; limit = λ l e. e }
-  call-left (writeProcs user h line) n = record { mark = refl; limit = λ l e. e }
-  call-left (writeControl user h line) n =
-      record {
-        mark = refl;
-        limit = λ l e. ⊎-elim (λ x. no-figure _ l x e) (λ x. sym x ∙ e) (child-limit-after h line g (b .group g));
-      }
-  call-left (writeSetting user h file line) n = clash true refl n
-  call-left (admit p user) n = record { mark = refl; limit = λ l e. e }
-  call-left (fork p new) n = record { mark = refl; limit = λ l e. e }
-  call-left (exit p) n = record { mark = refl; limit = λ l e. e }
-  call-left (charge p x) n = record { mark = refl; limit = kept-left (b .group) _ _ refl g }
-  call-left (release h x) n = record { mark = refl; limit = kept-left (b .group) h _ refl g }
-  call-left (read h file buffer) n = record { mark = refl; limit = λ l e. e }
-  call-left (membership p buffer) n = record { mark = refl; limit = λ l e. e }
 
 -- Names of two settings are not the same bytes.
 setting-of-name : (x y : Setting) → settingName x ≡ settingName y → x ≡ y
@@ -157,14 +103,9 @@ module _ (t : Tree) (b : Book) (s : State t b) (g : ℕ) where
           limit = λ l h. f l (ap (λ y. y .group g .limit Pages) (sym (book-step-accepted t b c e)) ∙ h);
         }
 
-    no-setting : writesSetting c ≡ false → Decided c
-    no-setting n =
-        let q = call-left b g c n in
-        inr (accepted-other (λ w. clash (writesSetting c) (ap writesSetting (w .call)) n) (q .mark) (q .limit))
-
-  module _ (user h : ℕ) (file line : List ℕ) (e : verdict t (writeSetting user h file line) ≡ Done) where
+  module _ (user h : ℕ) (file line : List ℕ) (e : verdict t (Call.writeSetting user h file line) ≡ Done) where
     abbrev written : Call
-    written = writeSetting user h file line
+    written = Call.writeSetting user h file line
 
     -- another setting, or another group
     other-value : (v : SettingValue) → lineValue file line ≡ some v → (settingOf v ≡ Max Pages → h ≡ g → ⊥) → Decided written
@@ -196,7 +137,7 @@ module _ (t : Tree) (b : Book) (s : State t b) (g : ℕ) where
           record {
             user = user;
             line = line;
-            call = ap₂ (λ x y. writeSetting user x y line) d f;
+            call = ap₂ (λ x y. Call.writeSetting user x y line) d f;
             accepted = reply-number t written ∙ ap answerNumber e;
           },
           ap (λ y. y .mark g) (book-step-accepted t b written e) ∙ m ∙ ap (λ x. usage x g) (sym (s .same .groups)) ∙ sym u,
@@ -210,26 +151,45 @@ module _ (t : Tree) (b : Book) (s : State t b) (g : ℕ) where
         whether h g (λ d. this-value l p d) (λ ne. other-value (maximum Pages l) p (λ _. ne))
     by-value (some (maximum Processes l)) p k = other-value (maximum Processes l) p (λ x. let z : _≡_ {A = ℕ} 0 1 = cc in absurd (omega arith))
 
-  accepted-decided : (c : Call) → verdict t c ≡ Done → Decided c
+  setting-decided : (c : Call) → verdict t c ≡ Done → WritesSetting c → Decided c
   unfolding checks Pass
-  accepted-decided (make user parent new) e = no-setting _ e refl
-  accepted-decided (remove user h) e = no-setting _ e refl
-  accepted-decided (handOver user h owner) e = no-setting _ e refl
-  accepted-decided (writeProcs user h line) e = no-setting _ e refl
-  accepted-decided (writeControl user h line) e = no-setting _ e refl
-  accepted-decided (writeSetting user h file line) e =
-      let k = passed t (writeSetting user h file line) e in
-      by-value user h file line e (lineValue file line) refl (search)
-  accepted-decided (admit p user) e = no-setting _ e refl
-  accepted-decided (fork p new) e = no-setting _ e refl
-  accepted-decided (exit p) e = no-setting _ e refl
-  accepted-decided (charge p n) e = no-setting _ e refl
-  accepted-decided (release h n) e = no-setting _ e refl
-  accepted-decided (read h file buffer) e = no-setting _ e refl
-  accepted-decided (membership p buffer) e = no-setting _ e refl
+  setting-decided c e x =
+      subst (λ (y : Call). verdict t y ≡ Done → Decided y) (sym (x .call))
+      (λ d. let k = passed t (Call.writeSetting (x .user) (x .group) (x .file) (x .line)) d in
+      by-value (x .user) (x .group) (x .file) (x .line) d (lineValue (x .file) (x .line)) refl (search)) e
 
-  decided : (c : Call) → Decided c
-  decided c = by-verdict t c (accepted-decided c) (λ x e. inr (refused-other c x e))
+-- A call that leaves marks as they are, whatever they are, is no write of memory.max, which makes the mark the usage.
+quiet-unset : (t : Tree) → WellFormed t → (g : ℕ) (c : Call) → verdict t c ≡ Done
+    → ((m : ℕ → ℕ) → enter (bookWith t m) c .mark ≡ m) → SetsMemoryMax g t c → ⊥
+quiet-unset t w g c e stay x =
+    let m : ℕ → ℕ = (λ h. suc (usage (cores t) h + usage (cores (step t c)) h)) in
+    let s : State t (bookWith t m) = record { formed = w; same = record { machine = refl; groups = refl; places = refl }; marked = λ h l v f. omega arith } in
+    ⊎-elim
+    (λ (y : SetsMemoryMax g t c × (after t (bookWith t m) s g c .mark g ≡ usage (cores (step t c)) g)).
+    let z : after t (bookWith t m) s g c .mark g ≡ m g = ap (λ b. b .mark g) (book-step-accepted t (bookWith t m) c e) ∙ ap (λ f. f g) (stay m) in
+    omega arith)
+    (λ (y : Other t (bookWith t m) s g c). y .unset x)
+    (setting-decided t (bookWith t m) s g c e
+    (record { user = x .user; group = g; file = bytes "memory.max"; line = x .line; call = x .call }))
+
+module _ (t : Tree) (b : Book) (s : State t b) (g : ℕ) where
+  left-alone : (c : Call) → verdict t c ≡ Done → ((m : ℕ → ℕ) → enter (bookWith t m) c .mark ≡ m) → Limited t (effect t c) → Other t b s g c
+  left-alone c e stay k =
+      accepted-other t b s g c e (quiet-unset t (s .formed) g c e stay)
+      (ap (λ x. enter x c .mark g) (sym (book-with-same t b (s .same))) ∙ ap (λ f. f g) (stay (b .mark)))
+      (λ l h. ap (λ x. x g .limit Pages) (sym (s .same .groups))
+      ∙ k .kept g l (ap (λ x. x g .limit Pages) (same-enter t b c (s .formed) (s .same) .groups) ∙ h))
+
+  accepted-decided : (c : Call) → verdict t c ≡ Done → Decided t b s g c
+  accepted-decided c e =
+      ⊎-elim
+      (λ (stay : (m : ℕ → ℕ) → enter (bookWith t m) c .mark ≡ m). ⊎-elim
+      (λ (k : Limited t (effect t c)). inr (left-alone c e stay k))
+      (setting-decided t b s g c e) (limited-change t (s .formed) (change t c (s .formed) (passed t c e))))
+      (setting-decided t b s g c e) (booked t c (s .formed) .marks)
+
+  decided : (c : Call) → Decided t b s g c
+  decided c = by-verdict t c (accepted-decided c) (λ x e. inr (refused-other t b s g c x e))
 
 -- Over a list: the last write, or none.
 record Unwritten (t : Tree) (b : Book) (cs : List Call) (g : ℕ) : Type 0 where

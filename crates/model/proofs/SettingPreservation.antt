@@ -3,7 +3,7 @@ use Prim.Native.Nat.{ℕ}
 use mathlib.Core.Option.{Option, none, some}
 use mathlib.Core.Path.{_≡_, refl}
 use Rattle.model.specs.Functions.{upd}
-use Rattle.model.specs.Tree.{Tree, Group, Settings, withSettings, cores, lives, places}
+use Rattle.model.specs.Tree.{Tree, Group, Settings, withSettings, cores, places}
 use Rattle.model.specs.Hierarchy.{ownPages, amount}
 use Rattle.model.specs.Settings.{SettingValue}
 use Rattle.model.specs.Effects.{written}

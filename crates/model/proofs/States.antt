@@ -1,6 +1,5 @@
 -- What holds of the tree and the book of demand 3 wherever a list of calls has come to, and that each call keeps it.
 -- Assumes nothing.
-use Prim.Native.Nat.{ℕ}
 use native.Mathlib.Omega.{arith}
 use mathlib.Core.List.{List, [], _∷_}
 use mathlib.Core.Path.{_≡_, refl, subst}

@@ -1,7 +1,6 @@
 -- Lists of calls, each on the tree that the one before handed back; the book that is fed the calls with the numbers that they
 -- answered; and what "every", "never" and "last" say of the calls of a list. Document 01, "The book of demand 3".
 -- Assumes nothing.
-use Prim.Native.Nat.{ℕ}
 use mathlib.Core.List.{List, [], _∷_}
 use mathlib.Core.Logic.{_⊎_}
 use mathlib.Core.Path.{_≡_}
