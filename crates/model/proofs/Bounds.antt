@@ -101,7 +101,7 @@ marked-write s mark g l k h q a m v e =
 
 -- what a control line leaves of a child
 module _ (g : ℕ) (line : List ℕ) (k : ℕ) (c : Core) where
-  pub child-limit-after : (childAfter g line k c .limit Pages ≡ NoLimit) ⊎ (childAfter g line k c .limit Pages ≡ c .limit Pages)
+  child-limit-after : (childAfter g line k c .limit Pages ≡ NoLimit) ⊎ (childAfter g line k c .limit Pages ≡ c .limit Pages)
   child-limit-after =
       split (childOf g k c)
       (λ y. rw (y, childAfter) (split (isDropped (asked line (controllerOf Pages))) (λ d. inl (rw d)) (λ d. inr (rw d))))

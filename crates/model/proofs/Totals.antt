@@ -86,7 +86,7 @@ module _ (t : Tree) (w : WellFormed t) where
   held-altered g v k Processes =
       ap (λ n. n + 0) (population-same (cores t) _ (places t) (upd-keeps (λ x. x .core .parent) (t .group) g v (k .parent)) 0)
 
-  pub balanced-change : {c : Call} {u : Tree} → Change t c u → (r : Resource) → heldIn t r + brought r (flow c) ≡ heldIn u r + taken r (flow c)
+  balanced-change : {c : Call} {u : Tree} → Change t c u → (r : Resource) → heldIn t r + brought r (flow c) ≡ heldIn u r + taken r (flow c)
   balanced-change (nothing f) r = still-balanced _ r _ _ f refl
   balanced-change (placed p v k) r = flow-balanced (k .heads) r _ _ (held-placed p v k r)
   balanced-change (altered g v k) r = flow-balanced (k .pages) r _ _ (held-altered g v (k .patch) r)

@@ -8,25 +8,25 @@ use mathlib.Core.Option.{Option, none, some}
 use mathlib.Core.Path.{_≡_}
 use Rattle.model.specs.Tree.{Tree, at, lives, parents, owners, places}
 use Rattle.model.specs.Hierarchy.{inside}
-use Rattle.model.specs.Calls.{Call, make, remove, handOver, writeProcs, writeControl, writeSetting, admit, fork, exit, charge, release, read, membership}
+use Rattle.model.specs.Calls.{Call}
 use Rattle.model.specs.Effects.{step, run}
 use Rattle.model.specs.Lists.{Accepted, Each, Never}
 
 -- the user that makes a call, where one does
 abbrev pub caller : Call → Option ℕ
-caller (make user parent new) = some user
-caller (remove user g) = some user
-caller (handOver user g owner) = some user
-caller (writeProcs user g line) = some user
-caller (writeControl user g line) = some user
-caller (writeSetting user g file line) = some user
-caller (admit p user) = none
-caller (fork p new) = none
-caller (exit p) = none
-caller (charge p n) = none
-caller (release g n) = none
-caller (read g file buffer) = none
-caller (membership p buffer) = none
+caller (Call.make user parent new) = some user
+caller (Call.remove user g) = some user
+caller (Call.handOver user g owner) = some user
+caller (Call.writeProcs user g line) = some user
+caller (Call.writeControl user g line) = some user
+caller (Call.writeSetting user g file line) = some user
+caller (Call.admit p user) = none
+caller (Call.fork p new) = none
+caller (Call.exit p) = none
+caller (Call.charge p n) = none
+caller (Call.release g n) = none
+caller (Call.read g file buffer) = none
+caller (Call.membership p buffer) = none
 
 -- "all of whose groups lie inside one handed-over part": the part is d and all below it
 abbrev pub OwnsInside : Tree → ℕ → ℕ → Type 0
@@ -40,7 +40,7 @@ NoneAcross d t u = (p g h : ℕ) → places t p ≡ at g → places u p ≡ at h
 pub record GivesOutside (user d : ℕ) (t : Tree) (c : Call) : Type 0 where
   pub giver : ℕ
   pub group : ℕ
-  pub call : c ≡ handOver giver group user
+  pub call : c ≡ Call.handOver giver group user
   pub accepted : Accepted t c
   pub outside : inside (parents t) d group ≡ false
 

@@ -7,7 +7,7 @@ use lib.Dec.{eqb}
 use Rattle.model.specs.Functions.{weigh}
 use Rattle.model.specs.Tree.{Tree, cores, places}
 use Rattle.model.specs.Hierarchy.{amount}
-use Rattle.model.specs.Calls.{Call, make, remove, handOver, writeProcs, writeControl, writeSetting, admit, fork, exit, charge, release, read, membership}
+use Rattle.model.specs.Calls.{Call}
 use Rattle.model.specs.Book.{Entry}
 use Rattle.model.specs.declared.Resource.{Resource}
 use Rattle.model.specs.declared.Resource.the-variants.{Pages, Processes}
@@ -19,19 +19,19 @@ pub data Flow : Type 0 where
   out : Resource → ℕ → Flow
 
 abbrev pub flow : Call → Flow
-flow (make user parent new) = none
-flow (remove user g) = none
-flow (handOver user g owner) = none
-flow (writeProcs user g line) = none
-flow (writeControl user g line) = none
-flow (writeSetting user g file line) = none
-flow (admit p user) = into Processes 1
-flow (fork p new) = into Processes 1
-flow (exit p) = out Processes 1
-flow (charge p n) = into Pages n
-flow (release g n) = out Pages n
-flow (read g file buffer) = none
-flow (membership p buffer) = none
+flow (Call.make user parent new) = none
+flow (Call.remove user g) = none
+flow (Call.handOver user g owner) = none
+flow (Call.writeProcs user g line) = none
+flow (Call.writeControl user g line) = none
+flow (Call.writeSetting user g file line) = none
+flow (Call.admit p user) = into Processes 1
+flow (Call.fork p new) = into Processes 1
+flow (Call.exit p) = out Processes 1
+flow (Call.charge p n) = into Pages n
+flow (Call.release g n) = out Pages n
+flow (Call.read g file buffer) = none
+flow (Call.membership p buffer) = none
 
 -- n where the two are one resource
 abbrev pub ofResource : Resource → Resource → ℕ → ℕ
