@@ -10,6 +10,7 @@ use model::GroupId;
 use tree::counter::adjust_up;
 use tree::group::depth;
 use tree::group::is_live;
+use tree::group::is_taken;
 use tree::group::put_group;
 use tree::layout::DEEPEST;
 use tree::layout::GROUPS;
@@ -30,7 +31,7 @@ fn vet_make(t: &Tree, user: u32, above: GroupId, new: GroupId) -> Answer
     if !is_live(t, above) {
         return Answer::Refused(Errno::Enoent);
     }
-    if is_live(t, new) {
+    if is_taken(t, new) {
         return Answer::Refused(Errno::Eexist);
     }
     if !may_write(t, user, above) {
@@ -43,7 +44,7 @@ fn vet_make(t: &Tree, user: u32, above: GroupId, new: GroupId) -> Answer
 }
 
 // A group under `parent`, owned by `user`, with an empty set, the defaults and no pages.
-// Einval: a number out of range. Enoent: the parent is not live. Eexist: the new number is. Eacces: the user may not
+// Einval: a number out of range. Enoent: the parent is not live. Eexist: the new number is taken. Eacces: the user may not
 // write the parent. Eagain: the parent is as deep as a group can be.
 pub fn make(tree: &mut Tree, user: u32, parent: GroupId, new: GroupId) -> Answer
     requires { ⌜ Kept (now tree) ⌝ }

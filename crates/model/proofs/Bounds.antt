@@ -28,6 +28,7 @@ use Rattle.model.specs.declared.Limit.the-variants.{NoLimit, Figure}
 use Rattle.model.proofs.FunctionLaws.{split, whether, upd-same, upd-other, upd-map, upd-keeps, upd-all, weigh-yes, weigh-no}
 use Rattle.model.proofs.ChainLaws.{inside-live, inside-root}
 use Rattle.model.proofs.AmountLaws.{place-live, place-free, usage-same, usage-after-charge, population-after-birth, amount-after-make, amount-after-remove}
+use Rattle.model.proofs.RuleLaws.{untaken-process}
 use Rattle.model.proofs.RoomLaws.{room-on-chain, root-limit-none, own-limit-holds, over-figure, no-figure}
 use Rattle.model.proofs.Preservation.{usage-after-patch, cores-after-remove}
 use Rattle.model.proofs.ControlPreservation.{amount-after-control}
@@ -59,7 +60,7 @@ within-after-add t w r p c (byFork {parent = parent}) k a i =
     let g : ℕ = processGroup t parent in
     let lg : lives t g ≡ true = process-lives t w parent (search) in
     let here : places t parent ≡ at g = place-live (places t parent) (search) in
-    let free : places t p ≡ nowhere = place-free (places t p) (search) in
+    let free : places t p ≡ nowhere = place-free (places t p) (untaken-process (t .process p) (search)) in
     let j : inside (parents t) a g ≡ true =
     sym (ap (λ x. inside (parents t) a (groupOf (x .place))) (upd-same (t .process) p (t .process parent))) ∙ i in
     let u : population (cores t) (places (effect t (Call.fork parent p))) a ≡ population (cores t) (places t) a + 1 =
@@ -117,7 +118,7 @@ module _ (t : Tree) (w : WellFormed t) where
   -- a group with a limit is live
   limited-live : (g l : ℕ) → t .group g .core .limit Pages ≡ Figure l → lives t g ≡ true
   limited-live g l e =
-      split (lives t g) (λ y. y) (λ n. no-figure _ l (ap (λ x. x .core .limit Pages) (w .blank .dead g n)) e)
+      split (lives t g) (λ y. y) (λ n. no-figure _ l (ap (λ x. x .core .limit Pages) (w .blank .freeGroup g n)) e)
 
   -- own pages come only where there is room for them
   bound-inside : {c : Call} (g a l b : ℕ) {n m : ℕ} → Flowed c Pages (RoomAbove t g) n m → inside (parents t) a g ≡ true

@@ -7,7 +7,7 @@ use mathlib.Core.List.{List}
 use mathlib.Core.Logic.{_≢_, _⊎_}
 use mathlib.Core.Path.{_≡_}
 use Rattle.model.specs.Sizes.{groups, processes, deepest}
-use Rattle.model.specs.Tree.{Tree, Group, Process, nowhere, at, noProcess, newGroup, atGroup, atProcess, cores, lives, parents, depths, owners, sets, places}
+use Rattle.model.specs.Tree.{Tree, Group, Process, at, noProcess, processTaken, newGroup, atGroup, atProcess, cores, lives, parents, depths, owners, sets, places}
 use Rattle.model.specs.Hierarchy.{inside, headcount, usage}
 use Rattle.model.specs.Rooms.{over, actingLimit}
 use Rattle.model.specs.Rules.{mayWrite, lineProcess, leaving}
@@ -51,7 +51,7 @@ pub record Placing (t : Tree) (c : Call) (p : ℕ) (v : Process) : Type 0 where
   pub low : p < processes
   pub group : (g : ℕ) → v .place ≡ at g → lives t g ≡ true
   pub quiet : (g : ℕ) → v .place ≡ at g → g ≢ 0 → (x : Controller) → sets t g x ≡ false
-  pub blank : v .place ≡ nowhere → v ≡ noProcess
+  pub blank : processTaken v ≡ false → v ≡ noProcess
   pub moved : (g h : ℕ) → places t p ≡ at g → v .place ≡ at h → (g ≡ h) ⊎ Moves c p h
   pub heads : Flowed c Processes (λ _. Unit {0}) (headcount (places t p)) (headcount (v .place))
 

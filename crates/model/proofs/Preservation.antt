@@ -7,7 +7,7 @@ use mathlib.Core.Logic.{_≢_, inl, inr}
 use mathlib.Core.Path.{_≡_, refl, ap, sym, _∙_, fun-ext}
 use Rattle.model.specs.Functions.{upd, weigh}
 use Rattle.model.specs.Sizes.{groups, processes, deepest}
-use Rattle.model.specs.Tree.{Tree, Group, Process, nowhere, at, settingsOf, noCore, noControls, noGroup, noProcess, newGroup, atGroup, atProcess, cores, lives, parents, depths, owners, sets, settingsAt, places}
+use Rattle.model.specs.Tree.{Tree, Group, Process, at, settingsOf, noCore, noControls, noGroup, noProcess, groupTaken, processTaken, newGroup, atGroup, atProcess, cores, lives, parents, depths, owners, sets, settingsAt, places}
 use Rattle.model.specs.Hierarchy.{onIn, inside, ownPages, usage}
 use Rattle.model.specs.Settings.{AtDefault, Allowed}
 use Rattle.model.specs.WellFormed.{WellFormed}
@@ -86,10 +86,10 @@ module _ (t : Tree) (w : WellFormed t) where
           quiet = quiet-eq refl same-set (w .quiet);
           blank =
               record {
-                dead =
-                    upd-all (λ j x. x .core .live ≡ false → x ≡ noGroup) (t .group) g v
-                    (λ d. clash (v .core .live) (k .live) d) (λ j _. w .blank .dead j);
-                free = w .blank .free;
+                freeGroup =
+                    upd-all (λ j x. groupTaken x ≡ false → x ≡ noGroup) (t .group) g v
+                    (λ d. clash (v .core .live) (k .live) d) (λ j _. w .blank .freeGroup j);
+                freeProcess = w .blank .freeProcess;
               };
           owned = upd-all (λ j x. j ≡ 0 → x .owner ≡ 0) (t .group) g v (k .owner) (λ j _ z. rw z (w .owned)) 0 refl;
           sized =
@@ -103,7 +103,7 @@ module _ (t : Tree) (w : WellFormed t) where
   pub well-formed-after-place : (p : ℕ) (v : Process) → p ≢ 0
       → ((h : ℕ) → v .place ≡ at h → (lives t h ≡ true) × (p < processes))
       → ((h : ℕ) → v .place ≡ at h → h ≢ 0 → (c : Controller) → sets t h c ≡ false)
-      → (v .place ≡ nowhere → v ≡ noProcess)
+      → (processTaken v ≡ false → v ≡ noProcess)
       → WellFormed (atProcess t p v)
   well-formed-after-place p v pz h q n =
       let e : places (atProcess t p v) ≡ upd (places t) p (v .place) = upd-map (λ x. x .place) (t .process) p v in
@@ -116,8 +116,8 @@ module _ (t : Tree) (w : WellFormed t) where
         quiet = quiet-eq e refl (quiet-after-put p (v .place) (w .quiet) q);
         blank =
             record {
-              dead = w .blank .dead;
-              free = upd-all (λ j x. x .place ≡ nowhere → x ≡ noProcess) (t .process) p v n (λ j _. w .blank .free j);
+              freeGroup = w .blank .freeGroup;
+              freeProcess = upd-all (λ j x. processTaken x ≡ false → x ≡ noProcess) (t .process) p v n (λ j _. w .blank .freeProcess j);
             };
         owned = w .owned;
         sized = w .sized;
@@ -162,10 +162,10 @@ module _ (t : Tree) (w : WellFormed t) where
           quiet = quiet-eq refl (part-made (λ x. x .set)) (quiet-after-set new noControls (w .quiet) (λ _ _ _ _. refl));
           blank =
               record {
-                dead =
-                    upd-all (λ j x. x .core .live ≡ false → x ≡ noGroup) (t .group) new made
-                    (λ h. clash true refl h) (λ j _. w .blank .dead j);
-                free = w .blank .free;
+                freeGroup =
+                    upd-all (λ j x. groupTaken x ≡ false → x ≡ noGroup) (t .group) new made
+                    (λ h. clash true refl h) (λ j _. w .blank .freeGroup j);
+                freeProcess = w .blank .freeProcess;
               };
           owned = ap (λ x. x .owner) (upd-other (t .group) new made 0 (not-new 0 (w .sound .root))) ∙ w .owned;
           sized =
@@ -211,11 +211,11 @@ module _ (t : Tree) (w : WellFormed t) where
           quiet = quiet-eq refl (part-after-remove t g (λ x. x .set) refl) (quiet-after-set g noControls (w .quiet) (λ _ _ _ _. refl));
           blank =
               record {
-                dead =
-                    upd-all (λ j x. x .core .live ≡ false → x ≡ noGroup) (upd (t .group) (parents t g) heir) g noGroup (λ _. refl)
-                    (λ j _. upd-all (λ i x. x .core .live ≡ false → x ≡ noGroup) (t .group) (parents t g) heir
-                    (λ d. clash (lives t (parents t g)) (w .sound .above g lg gz) d) (λ i _. w .blank .dead i) j);
-                free = w .blank .free;
+                freeGroup =
+                    upd-all (λ j x. groupTaken x ≡ false → x ≡ noGroup) (upd (t .group) (parents t g) heir) g noGroup (λ _. refl)
+                    (λ j _. upd-all (λ i x. groupTaken x ≡ false → x ≡ noGroup) (t .group) (parents t g) heir
+                    (λ d. clash (lives t (parents t g)) (w .sound .above g lg gz) d) (λ i _. w .blank .freeGroup i) j);
+                freeProcess = w .blank .freeProcess;
               };
           owned =
               ap (λ f. f 0) (part-after-remove t g (λ x. x .owner) refl) ∙ upd-other (owners t) g 0 0 (λ e. gz (sym e)) ∙ w .owned;

@@ -4,7 +4,7 @@ use native.Mathlib.Omega.{arith}
 use mathlib.Core.Bool.{true, false}
 use mathlib.Core.List.{[], _∷_, _++_}
 use mathlib.Core.Path.{_≡_, refl, ap, sym, _∙_, subst}
-use Rattle.model.specs.Tree.{Tree, noGroup, newGroup, lives}
+use Rattle.model.specs.Tree.{Tree, noGroup, groupTaken, newGroup, lives}
 use Rattle.model.specs.Calls.{Call}
 use Rattle.model.specs.Effects.{step, fresh, run}
 use Rattle.model.specs.WellFormed.{WellFormed}
@@ -52,8 +52,8 @@ module _ (m : ℕ) where
         quiet = record { empty = λ p g e nz c. let z : _≡_ {A = ℕ} 0 1 = cc in absurd (omega arith) };
         blank =
             record {
-              dead = upd-all (λ j x. x .core .live ≡ false → x ≡ noGroup) (λ (g : ℕ). noGroup) 0 (newGroup 0 0 0) (λ h. clash true refl h) (λ j _ _. refl);
-              free = λ p e. refl;
+              freeGroup = upd-all (λ j x. groupTaken x ≡ false → x ≡ noGroup) (λ (g : ℕ). noGroup) 0 (newGroup 0 0 0) (λ h. clash true refl h) (λ j _ _. refl);
+              freeProcess = λ p e. refl;
             };
         owned = ap (λ x. x .owner) root-new;
         sized =

@@ -36,7 +36,7 @@ use Rattle.model.proofs.ControlLaws.{any-controller-none, set-after-tru
 use Rattle.model.proofs.PartLaws.{default-new, default-after-put}
 use Rattle.model.proofs.AllowedLaws.{allowed-new, allowed-after-put}
 use Rattle.model.proofs.RoomLaws.{room-on-chain, over-figure, machine-acts}
-use Rattle.model.proofs.RuleLaws.{NoChild}
+use Rattle.model.proofs.RuleLaws.{NoChild, untaken-group, untaken-process}
 use Rattle.model.proofs.Preservation.{Patch, well-formed-after-patch, well-formed-after-place, well-formed-after-make, well-formed-after-remove}
 use Rattle.model.proofs.ControlPreservation.{child-of, Control, well-formed-after-control}
 use Rattle.model.proofs.SettingPreservation.{part-written}
@@ -204,7 +204,7 @@ pub change : (t : Tree) (c : Call) → WellFormed t → Pass (checks (factsOf t)
 unfolding effect checks Pass chargeChecks forkChecks
 change t (Call.make user parent new) w k =
     made user parent new refl
-    (record { above = (search); dead = (search); low = omega (arith, leb-false); shallow = omega (arith, leb-false); may = (search) })
+    (record { above = (search); dead = untaken-group (t .group new) (search); low = omega (arith, leb-false); shallow = omega (arith, leb-false); may = (search) })
 change t (Call.remove user g) w k =
     removal g refl
     (record {
@@ -234,7 +234,7 @@ change t (Call.writeProcs user g line) w k =
           let d : g ≡ h = cc in
           let q : anyController (sets t g) ≡ false = and-false (not (eqb g 0)) _ (search) (rw (ne-eqb g 0 (λ z. nz (sym d ∙ z)))) in
           rw (← d) (any-controller-none (sets t g) q c);
-      blank = λ e. let z : _≡_ {A = ℕ} 0 1 = cc in absurd (omega arith);
+      blank = λ e. clash true refl e;
       moved = λ h i was e.
           let d : g ≡ i = cc in
           inr (record { user = user; line = line; call = ap (λ x. Call.writeProcs user x line) d; process = refl });
@@ -250,26 +250,28 @@ change t (Call.writeSetting user g file line) w k =
       limit = inr (record { user = user; group = g; file = file; line = line; call = refl });
     })
 change t (Call.admit p user) w k =
+    let free : isLive (places t p) ≡ false = untaken-process (t .process p) (search) in
     placed p (record { place = at 0; user = user })
     (record {
       number = eqb-false p 0 (search);
       low = omega (arith, leb-false);
       group = λ h e. let d : 0 ≡ h = cc in rw (← d) (w .sound .root);
       quiet = λ h e nz c. let d : 0 ≡ h = cc in absurd (nz (sym d));
-      blank = λ e. let z : _≡_ {A = ℕ} 0 1 = cc in absurd (omega arith);
-      moved = λ g h was e. clash (isLive (places t p)) (rw was) (search);
-      heads = came 1 refl (rw (place-free (places t p) (search)) (omega arith)) tt;
+      blank = λ e. clash true refl e;
+      moved = λ g h was e. clash (isLive (places t p)) (rw was) free;
+      heads = came 1 refl (rw (place-free (places t p) free) (omega arith)) tt;
     })
 change t (Call.fork p new) w k =
+    let free : isLive (places t new) ≡ false = untaken-process (t .process new) (search) in
     placed new (t .process p)
     (record {
       number = eqb-false new 0 (search);
       low = omega (arith, leb-false);
       group = λ h e. w .placed .group p h e;
       quiet = λ h e nz c. w .quiet .empty p h e nz c;
-      blank = λ e. clash (isLive (places t p)) (search) (rw e);
-      moved = λ g h was e. clash (isLive (places t new)) (rw was) (search);
-      heads = came 1 refl (rw (place-free (places t new) (search), place-live (places t p) (search)) (omega arith)) tt;
+      blank = λ e. clash (isLive (places t p)) (search) e;
+      moved = λ g h was e. clash (isLive (places t new)) (rw was) free;
+      heads = came 1 refl (rw (place-free (places t new) free, place-live (places t p) (search)) (omega arith)) tt;
     })
 change t (Call.exit p) w k =
     let here : places t p ≡ at (processGroup t p) = place-live (places t p) (search) in

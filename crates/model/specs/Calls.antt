@@ -9,7 +9,7 @@ use lib.Dec.{eqb, leb, ltb}
 use Rattle.model.specs.Functions.{known, passes, orElse, mapped}
 use Rattle.model.specs.Sizes.{deepest, largestCharge}
 use Rattle.model.specs.Checks.{Check, bar, need, first}
-use Rattle.model.specs.Tree.{Tree, isLive, lives, parents, depths, sets, places}
+use Rattle.model.specs.Tree.{Tree, isLive, groupTaken, processTaken, lives, parents, depths, sets, places}
 use Rattle.model.specs.Hierarchy.{on, Facts, factsOf}
 use Rattle.model.specs.Text.{tooLong, lineWords}
 use Rattle.model.specs.Names.{settingNamed, fileNamed}
@@ -65,7 +65,7 @@ forkChecks t p new =
     need (isLive (places t p)) Esrch
     ∷ bar (eqb new 0) Einval
     ∷ bar (noProcessNumber new) Einval
-    ∷ bar (isLive (places t new)) Eexist
+    ∷ bar (processTaken (t .process new)) Eexist
     ∷ []
 
 -- "would pass memory.max", "would hold more live processes inside than pids.max"
@@ -77,7 +77,7 @@ checks f (make user parent new) =
     bar (noGroupNumber parent) Einval
     ∷ bar (noGroupNumber new) Einval
     ∷ need (lives (f .tree) parent) Enoent
-    ∷ bar (lives (f .tree) new) Eexist
+    ∷ bar (groupTaken (f .tree .group new)) Eexist
     ∷ need (mayWrite (f .tree) user parent) Eacces
     ∷ bar (leb deepest (depths (f .tree) parent)) Eagain
     ∷ []
@@ -130,7 +130,7 @@ checks f (writeSetting user g file line) =
 checks f (admit p user) =
     bar (eqb p 0) Einval
     ∷ bar (noProcessNumber p) Einval
-    ∷ bar (isLive (places (f .tree) p)) Eexist
+    ∷ bar (processTaken (f .tree .process p)) Eexist
     ∷ []
 checks f (fork p new) = forkChecks (f .tree) p new ++ roomCheck f Processes 1 p
 checks f (exit p) =

@@ -1,4 +1,4 @@
--- The tree: document 01, "What the host keeps". Every field is a function of the number, and a number that is not live
+-- The tree: document 01, "What the host keeps". Every field is a function of the number, and a number that is not taken
 -- has one blank value, so that one tree has one description. Assumes nothing.
 use Prim.Native.Nat.{ℕ}
 use mathlib.Core.Bool.{Bool, true, false}
@@ -54,7 +54,7 @@ pub record Tree : Type 0 where
   pub group : ℕ → Group
   pub process : ℕ → Process
 
--- What is kept of a number that is not live.
+-- What is kept of a number that is not taken.
 abbrev pub noCore : Core
 noCore = record { live = false; parent = 0; own = 0; limit = λ r. NoLimit }
 
@@ -166,3 +166,11 @@ isLive (at g) = true
 abbrev pub groupOf : Place → ℕ
 groupOf nowhere = 0
 groupOf (at g) = g
+
+-- Whether a number is taken, so that no group is made and no process is born with it. This is another question than whether it is
+-- live; in document 01 both have one answer.
+abbrev pub groupTaken : Group → Bool
+groupTaken g = g .core .live
+
+abbrev pub processTaken : Process → Bool
+processTaken p = isLive (p .place)

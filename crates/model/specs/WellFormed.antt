@@ -5,7 +5,7 @@ use mathlib.Core.Bool.{Bool, true, false}
 use mathlib.Core.Logic.{_≢_}
 use mathlib.Core.Path.{_≡_}
 use Rattle.model.specs.Sizes.{groups, processes, deepest, largestMachine}
-use Rattle.model.specs.Tree.{Tree, Group, Process, Place, nowhere, at, Controls, Settings, noGroup, noProcess, cores, lives, parents, depths, owners, sets, settingsAt, places}
+use Rattle.model.specs.Tree.{Tree, Group, Process, Place, nowhere, at, Controls, Settings, noGroup, noProcess, groupTaken, processTaken, cores, lives, parents, depths, owners, sets, settingsAt, places}
 use Rattle.model.specs.Hierarchy.{onIn, usage}
 use Rattle.model.specs.Settings.{AtDefault, Allowed}
 use Rattle.model.specs.declared.Controller.{Controller}
@@ -42,10 +42,10 @@ pub record Ranges (live : ℕ → Bool) (setting : ℕ → Settings) : Type 0 wh
 pub record NoInternalProcesses (place : ℕ → Place) (set : ℕ → Controls) : Type 0 where
   pub empty : (p g : ℕ) → place p ≡ at g → g ≢ 0 → (c : Controller) → set g c ≡ false
 
--- nothing is kept of a number that is not live
+-- nothing is kept of a number that is not taken
 pub record Blank (group : ℕ → Group) (process : ℕ → Process) : Type 0 where
-  pub dead : (g : ℕ) → group g .core .live ≡ false → group g ≡ noGroup
-  pub free : (p : ℕ) → process p .place ≡ nowhere → process p ≡ noProcess
+  pub freeGroup : (g : ℕ) → groupTaken (group g) ≡ false → group g ≡ noGroup
+  pub freeProcess : (p : ℕ) → processTaken (process p) ≡ false → process p ≡ noProcess
 
 -- "the root's is always 0": its owner
 abbrev pub RootOwned : (ℕ → ℕ) → Type 0

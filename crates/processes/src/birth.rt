@@ -21,10 +21,11 @@ use tree::counter::first_full;
 use tree::layout::PROCESSES;
 use tree::layout::Tree;
 use tree::process::is_process;
+use tree::process::is_taken;
 use tree::process::process_group;
 use tree::process::process_user;
 
-// 22 the number outside 1 to 256; 17 live. Any user may be admitted.
+// 22 the number outside 1 to 256; 17 taken. Any user may be admitted.
 fn vet_admit(tree: &Tree, process: ProcessId) -> Answer
     ensures { λ r. ⌜ ((user : ℕ) → r ≡ verdict (view (now (tree .entry))) (admit (process .0) user)) ⌝ }
 {
@@ -34,7 +35,7 @@ fn vet_admit(tree: &Tree, process: ProcessId) -> Answer
     if PROCESSES <= process.0 {
         return Answer::Refused(Errno::Einval);
     }
-    if is_process(tree, process) {
+    if is_taken(tree, process) {
         return Answer::Refused(Errno::Eexist);
     }
     Answer::Done
@@ -53,7 +54,7 @@ pub fn admit(tree: &mut Tree, process: ProcessId, user: u32) -> Answer
     Answer::Done
 }
 
-// The checks before room is asked for: 3 the parent is no live process; 22 the new number outside 1 to 256; 17 live.
+// The checks before room is asked for: 3 the parent is no live process; 22 the new number outside 1 to 256; 17 taken.
 fn vet_fork(tree: &Tree, parent: ProcessId, new: ProcessId) -> Answer
     requires { ⌜ Kept (now tree) ⌝ }
     ensures { λ r. ⌜ r ≡ first (forkChecks (view (now (tree .entry))) (parent .0) (new .0)) ⌝ }
@@ -70,7 +71,7 @@ fn vet_fork(tree: &Tree, parent: ProcessId, new: ProcessId) -> Answer
     if PROCESSES <= new.0 {
         return Answer::Refused(Errno::Einval);
     }
-    if is_process(tree, new) {
+    if is_taken(tree, new) {
         return Answer::Refused(Errno::Eexist);
     }
     Answer::Done

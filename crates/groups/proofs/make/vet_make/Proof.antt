@@ -24,10 +24,10 @@ returns-3 : tie.Need-returns-3
 unfolding verdict checks
 returns-3 c = search vets depth 12 fits 4000
 
-is-live-requires-2 : tie.Need-is-live-requires-2
-is-live-requires-2 c κs = search needs
+is-taken-requires : tie.Need-is-taken-requires
+is-taken-requires c κs = search needs
 
--- 17: the new number is live
+-- 17: the new number is taken
 returns-4 : tie.Need-returns-4
 unfolding verdict checks
 returns-4 c = search vets depth 12 fits 4000
@@ -61,7 +61,7 @@ vet-make-spec =
     returns-2
     is-live-requires
     returns-3
-    is-live-requires-2
+    is-taken-requires
     returns-4
     may-write-requires
     returns-5

@@ -15,10 +15,10 @@ returns-2 : tie.Need-returns-2
 unfolding verdict checks
 returns-2 c = λ user. search vets depth 12 fits 4000
 
-is-process-requires : tie.Need-is-process-requires
-is-process-requires c κs = search needs
+is-taken-requires : tie.Need-is-taken-requires
+is-taken-requires c κs = search needs
 
--- 17: live
+-- 17: taken
 returns-3 : tie.Need-returns-3
 unfolding verdict checks
 returns-3 c = λ user. search vets depth 12 fits 4000
@@ -29,4 +29,4 @@ unfolding verdict checks
 returns-4 c = λ user. search vets depth 12 fits 4000
 
 pub vet-admit-spec : {M : Type 1} → statement M
-vet-admit-spec = tie.close (tie.spec returns returns-2 is-process-requires returns-3 returns-4)
+vet-admit-spec = tie.close (tie.spec returns returns-2 is-taken-requires returns-3 returns-4)

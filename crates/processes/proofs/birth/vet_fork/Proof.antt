@@ -32,10 +32,10 @@ returns-4 : tie.Need-returns-4
 unfolding forkChecks
 returns-4 c = search vets depth 12 fits 4000
 
-is-process-requires-2 : tie.Need-is-process-requires-2
-is-process-requires-2 c κs = search needs
+is-taken-requires : tie.Need-is-taken-requires
+is-taken-requires c κs = search needs
 
--- 17: live
+-- 17: taken
 returns-5 : tie.Need-returns-5
 unfolding forkChecks
 returns-5 c = search vets depth 12 fits 4000
@@ -54,6 +54,6 @@ vet-fork-spec =
     returns-2
     returns-3
     returns-4
-    is-process-requires-2
+    is-taken-requires
     returns-5
     returns-6)
