@@ -27,6 +27,7 @@ use Rattle.model.proofs.DecimalLaws.{length-decimal}
 use Rattle.model.proofs.FigureLaws.{between-le}
 use Rattle.model.proofs.SettingTextLaws.{shown-short}
 use Rattle.tree.specs.Layout.{view, sumIn}
+use Rattle.tree.specs.declared.sum.Counter.the-variants.{Of}
 use Rattle.tree.specs.Kept.{KeptAt}
 use Rattle.tree.proofs.KeptLaws.{sum-small}
 
@@ -60,28 +61,28 @@ figure-in-range r l n e h = go r (rw e at h)
 module _ (xs : List ℕ) (g : ℕ) (k : KeptAt xs g) where
   -- ---- counts
 
-  pub figure-fits : (r : Resource) (n : ℕ) → n ≡ sumIn xs r g → toFigure r n < 18446744073709551616
-  figure-fits r n e = omega (arith, figure-small r n (omega (arith, sum-small xs (k .kept) r g (k .live))))
+  pub figure-fits : (r : Resource) (n : ℕ) → n ≡ sumIn xs (Of r) g → toFigure r n < 2 ^ 64
+  figure-fits r n e = omega (arith, figure-small r n (omega (arith, sum-small xs (k .kept) (Of r) g)))
 
-  pub length-figure : (r : Resource) (n f : ℕ) → n ≡ sumIn xs r g → f ≡ toFigure r n → length (decimal f) ≤ 16
+  pub length-figure : (r : Resource) (n f : ℕ) → n ≡ sumIn xs (Of r) g → f ≡ toFigure r n → length (decimal f) ≤ 16
   length-figure r n f e q =
-      let small = figure-small r n (omega (arith, sum-small xs (k .kept) r g (k .live))) in
+      let small = figure-small r n (omega (arith, sum-small xs (k .kept) (Of r) g)) in
       length-decimal f 16 (omega (arith, small)) (omega arith)
 
-  pub current-text : (r : Resource) (n f : ℕ) → n ≡ sumIn xs r g → f ≡ toFigure r n
+  pub current-text : (r : Resource) (n f : ℕ) → n ≡ sumIn xs (Of r) g → f ≡ toFigure r n
       → ended (decimal f) ≡ contents (factsOf (view xs)) g (Current r)
   unfolding contents
-  current-text r n f e q = ap (λ (m : ℕ). ended (decimal m)) (q ∙ ap (toFigure r) (e ∙ k .kept .sums r g (k .live)))
+  current-text r n f e q = ap (λ (m : ℕ). ended (decimal m)) (q ∙ ap (toFigure r) (e ∙ k .kept .sums (Of r) g))
 
-  pub events-none : (n : ℕ) → n ≡ sumIn xs Processes g → n ≡ 0
+  pub events-none : (n : ℕ) → n ≡ sumIn xs (Of Processes) g → n ≡ 0
       → bytes "populated 0\n" ≡ contents (factsOf (view xs)) g Events
   unfolding contents
-  events-none n e z = rw (eq-eqb _ 0 (sym (e ∙ k .kept .sums Processes g (k .live)) ∙ z))
+  events-none n e z = rw (eq-eqb _ 0 (sym (e ∙ k .kept .sums (Of Processes) g) ∙ z))
 
-  pub events-some : (n : ℕ) → n ≡ sumIn xs Processes g → n ≢ 0
+  pub events-some : (n : ℕ) → n ≡ sumIn xs (Of Processes) g → n ≢ 0
       → bytes "populated 1\n" ≡ contents (factsOf (view xs)) g Events
   unfolding contents
-  events-some n e z = rw (ne-eqb _ 0 (λ w. z (e ∙ k .kept .sums Processes g (k .live) ∙ w)))
+  events-some n e z = rw (ne-eqb _ 0 (λ w. z (e ∙ k .kept .sums (Of Processes) g ∙ w)))
 
   -- ---- settings
 

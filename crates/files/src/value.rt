@@ -3,7 +3,7 @@
 ghost use mathlib.Core.Bool.{true};
 ghost use mathlib.Core.Option.{some};
 ghost use mathlib.Core.Path.{_≡_};
-ghost use Prim.Native.Nat.{_<_, _≤_};
+ghost use Prim.Native.Nat.{_^_, _<_, _≤_};
 ghost use lib.ListN.{length};
 ghost use Rattle.model.specs.Hierarchy.{factsOf};
 ghost use Rattle.model.specs.Text.{ended};
@@ -22,16 +22,17 @@ use text::value::PAGE_BYTES;
 use text::write::put_byte;
 use text::write::put_limit;
 use text::write::put_text;
-use tree::group::sum;
 use tree::layout::Tree;
 use tree::setting::limit;
 use tree::setting::period;
 use tree::setting::quota;
 use tree::setting::weight;
+use tree::sum::Counter;
+use tree::sum::sum;
 
 // An amount of a resource, as its files show it.
 fn to_figure(r: Resource, n: u64) -> u64
-    requires { ⌜ toFigure r n < 18446744073709551616 ⌝ }
+    requires { ⌜ toFigure r n < 2 ^ 64 ⌝ }
     ensures { λ k. ⌜ k ≡ toFigure r n ⌝ }
 {
     match r {
@@ -56,7 +57,7 @@ pub fn put_events(t: &Tree, g: GroupId, out: &mut [u8]) -> usize
     requires { ⌜ Ready (now t) (g .0) (now out) ⌝ }
     ensures { λ r. ⌜ Wrote (now (out .entry)) 0 (contents (factsOf (view (now (t .entry)))) (g .0) File.Events) (now (out .exit)) r ⌝ }
 {
-    if sum(t, g, Resource::Processes) == 0 {
+    if sum(t, g, Counter::Of(Resource::Processes)) == 0 {
         return put_text(out, 0, b"populated 0\n");
     }
     put_text(out, 0, b"populated 1\n")
@@ -67,7 +68,7 @@ pub fn put_current(t: &Tree, g: GroupId, s: Resource, out: &mut [u8]) -> usize
     requires { ⌜ Ready (now t) (g .0) (now out) ⌝ }
     ensures { λ r. ⌜ Wrote (now (out .entry)) 0 (contents (factsOf (view (now (t .entry)))) (g .0) (File.Current s)) (now (out .exit)) r ⌝ }
 {
-    let figure = to_figure(s, sum(t, g, s));
+    let figure = to_figure(s, sum(t, g, Counter::Of(s)));
     put_line(out, 0, figure)
 }
 

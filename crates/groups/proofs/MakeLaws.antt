@@ -18,6 +18,7 @@ use Rattle.model.specs.Effects.{effect}
 use Rattle.model.specs.declared.Resource.{Resource}
 use Rattle.model.specs.declared.Answer.the-variants.{Done}
 use Rattle.model.proofs.FunctionLaws.{weigh-zero, upd-map}
+use Rattle.model.proofs.RuleLaws.{untaken-group}
 use Rattle.model.proofs.AmountLaws.{amount-dead, amount-after-make}
 use Rattle.model.proofs.Steps.{passed}
 use Rattle.tree.specs.Layout.{view, sumIn}
@@ -48,7 +49,7 @@ makeable t user parent new v =
       above = omega (arith, leb-false);
       home = (search);
       low = omega (arith, leb-false);
-      free = (search);
+      free = untaken-group (t .group new) (search);
       shallow = omega (arith, leb-false);
     }
 

@@ -1,4 +1,5 @@
--- The tree and the book of demand 3 keep the same of groups and places after every call. The one call where this is not
+-- The number of a reply is that of the verdict, for every sort of call. The tree and the book of demand 3 keep the same of groups
+-- and places after every call, and `booked` is the one place where each call's entry meets its effect. The one call where this is not
 -- plain is a control line: the book goes by the last word, the tree by what leaves the set. Assumes nothing.
 use Prim.Native.Nat.{ℕ}
 use mathlib.Core.Bool.{Bool, true, false, _&&_}
@@ -53,10 +54,12 @@ room-number r cs x = go (first cs) x ∙ ap answerNumber (sym (first-append cs (
     go Done (full g k) = refl
     go (Refused e) x = refl
 
-asked-number : (t : Tree) {r : Resource} {n p : ℕ} {c : Call} (k : Asks r n p c) → roomNumber r (askedAnswer (factsOf t) k) ≡ answerNumber (verdict t c)
+asked-number : (t : Tree) {r : Resource} {n p : ℕ} {c : Call} (k : Asks r n p c)
+    → roomNumber r (askedAnswer (factsOf t) k) ≡ answerNumber (verdict t c)
 unfolding verdict chargeAnswer forkAnswer checks
 asked-number t (forCharge {p = p} {n = n}) = room-number Pages (chargeChecks t p n) (roomFor (factsOf t) Pages n (processGroup t p))
-asked-number t (forFork {p = p} {new = new}) = room-number Processes (forkChecks t p new) (roomFor (factsOf t) Processes 1 (processGroup t p))
+asked-number t (forFork {p = p} {new = new}) =
+    room-number Processes (forkChecks t p new) (roomFor (factsOf t) Processes 1 (processGroup t p))
 
 pub reply-number : (t : Tree) (c : Call) → reply t c .number ≡ answerNumber (verdict t c)
 unfolding reply replyBy verdict

@@ -128,7 +128,8 @@ module _ (t : Tree) (w : WellFormed t) where
       inr (omega (arith, over-figure _ l _ (own-limit-holds t w Pages a (usage (cores t) a + x) (limited-live a l k) (room a i)) k))
   bound-inside g a l b (went x f e) i k h = inl (omega arith)
 
-  limited-altered : {c : Call} (g : ℕ) (v : Group) → Altering t c g v → v .core .limit Pages ≡ t .group g .core .limit Pages → Limited t (atGroup t g v)
+  limited-altered : {c : Call} (g : ℕ) (v : Group) → Altering t c g v → v .core .limit Pages ≡ t .group g .core .limit Pages
+      → Limited t (atGroup t g v)
   limited-altered g v k same =
       let kept : ((a l : ℕ) → atGroup t g v .group a .core .limit Pages ≡ Figure l → t .group a .core .limit Pages ≡ Figure l) =
       (λ a l e. sym (upd-keeps (λ x. x .core .limit Pages) (t .group) g v same a) ∙ e) in
@@ -137,7 +138,8 @@ module _ (t : Tree) (w : WellFormed t) where
         bound = λ a l e.
             let u = usage-after-patch t w g v (k .patch) a in
             split (inside (parents t) a g)
-            (λ i. bound-inside g a l _ (k .pages) i (kept a l e) (omega (arith, u, weigh-yes _ (t .group g .core .own) i, weigh-yes _ (v .core .own) i)))
+            (λ i. bound-inside g a l _ (k .pages) i (kept a l e)
+            (omega (arith, u, weigh-yes _ (t .group g .core .own) i, weigh-yes _ (v .core .own) i)))
             (λ i. inl (omega (arith, u, weigh-no _ (t .group g .core .own) i, weigh-no _ (v .core .own) i)));
       }
 
@@ -168,7 +170,8 @@ module _ (t : Tree) (w : WellFormed t) where
             (λ ne. inl (omega (
               arith,
               ap (λ s. usage s a) (cores-after-remove t g),
-              amount-after-remove (cores t) (places t) (depths t) (w .sound) (w .placed) g (k .alive) (k .inner) (k .noChild) (k .noProcess) Pages a ne,
+              amount-after-remove (cores t) (places t) (depths t) (w .sound) (w .placed) g
+                  (k .alive) (k .inner) (k .noChild) (k .noProcess) Pages a ne,
             )));
       }
 
@@ -176,7 +179,8 @@ module _ (t : Tree) (w : WellFormed t) where
   limited-control g line =
       record {
         kept = λ a l e.
-            let f : childAfter g line a (cores t a) .limit Pages ≡ Figure l = ap (λ c. c .limit Pages) (sym (cores-after-control t w g line a)) ∙ e in
+            let f : childAfter g line a (cores t a) .limit Pages ≡ Figure l =
+            ap (λ c. c .limit Pages) (sym (cores-after-control t w g line a)) ∙ e in
             ⊎-elim (λ x. no-figure _ l x f) (λ x. sym x ∙ f) (child-limit-after g line a (cores t a));
         bound = λ a l e. inl (omega (arith, amount-after-control t g (newSet t g line) (leaving t g line) Pages a));
       }

@@ -143,7 +143,8 @@ module _ (t : Tree) (g : ℕ) (set gone : Controls) where
                     let free : groupTaken (t .group k) ≡ false = sym (ap (λ f. f k) (part-kept groupTaken (λ _ _. refl) refl)) ∙ d in
                     let dead : lives t k ≡ false = untaken-group (t .group k) free in
                     let n : childOf g k (cores t k) ≡ false = split (childOf g k (cores t k)) (λ y. clash (lives t k) (child-live g k (cores t k) y) dead) (λ n. n) in
-                    reset-other t g gone k _ n ∙ upd-other (t .group) g _ k (λ e. clash (lives t k) (rw e (q .alive)) dead) ∙ w .blank .freeGroup k free;
+                    reset-other t g gone k _ n ∙ upd-other (t .group) g _ k (λ e. clash (lives t k) (rw e (q .alive)) dead)
+                    ∙ w .blank .freeGroup k free;
                 freeProcess = w .blank .freeProcess;
               };
           owned = ap (λ f. f 0) owner-after-control ∙ w .owned;

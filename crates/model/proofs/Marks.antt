@@ -163,10 +163,12 @@ quiet-unset : (t : Tree) → WellFormed t → (g : ℕ) (c : Call) → verdict t
     → ((m : ℕ → ℕ) → enter (bookWith t m) c .mark ≡ m) → SetsMemoryMax g t c → ⊥
 quiet-unset t w g c e stay x =
     let m : ℕ → ℕ = (λ h. suc (usage (cores t) h + usage (cores (step t c)) h)) in
-    let s : State t (bookWith t m) = record { formed = w; same = record { machine = refl; groups = refl; places = refl }; marked = λ h l v f. omega arith } in
+    let s : State t (bookWith t m) =
+    record { formed = w; same = record { machine = refl; groups = refl; places = refl }; marked = λ h l v f. omega arith } in
     ⊎-elim
     (λ (y : SetsMemoryMax g t c × (after t (bookWith t m) s g c .mark g ≡ usage (cores (step t c)) g)).
-    let z : after t (bookWith t m) s g c .mark g ≡ m g = ap (λ b. b .mark g) (book-step-accepted t (bookWith t m) c e) ∙ ap (λ f. f g) (stay m) in
+    let z : after t (bookWith t m) s g c .mark g ≡ m g =
+    ap (λ b. b .mark g) (book-step-accepted t (bookWith t m) c e) ∙ ap (λ f. f g) (stay m) in
     omega arith)
     (λ (y : Other t (bookWith t m) s g c). y .unset x)
     (setting-decided t (bookWith t m) s g c e

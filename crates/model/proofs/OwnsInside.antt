@@ -59,7 +59,8 @@ module _ (t : Tree) (w : WellFormed t) (user d : ℕ) (nz : user ≢ 0) (own : O
   -- a group keeps its place, and is the user's only where it lies inside
   owns-altered : (h : ℕ) (v : Group) → Patch t h v → (v .owner ≡ user → inside (parents t) d h ≡ true) → OwnsInside (atGroup t h v) user d
   owns-altered h v k f g l o =
-      let up : (λ j. upd (t .group) h v j .core .parent) ≡ parents t = fun-ext (upd-keeps (λ x. x .core .parent) (t .group) h v (k .parent)) in
+      let up : (λ j. upd (t .group) h v j .core .parent) ≡ parents t =
+      fun-ext (upd-keeps (λ x. x .core .parent) (t .group) h v (k .parent)) in
       let lg : lives t g ≡ true = sym (upd-keeps (λ x. x .core .live) (t .group) h v (k .live ∙ sym (k .alive)) g) ∙ l in
       rw up
       (whether g h

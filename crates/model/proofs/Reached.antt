@@ -52,7 +52,9 @@ module _ (m : ℕ) where
         quiet = record { empty = λ p g e nz c. let z : _≡_ {A = ℕ} 0 1 = cc in absurd (omega arith) };
         blank =
             record {
-              freeGroup = upd-all (λ j x. groupTaken x ≡ false → x ≡ noGroup) (λ (g : ℕ). noGroup) 0 (newGroup 0 0 0) (λ h. clash true refl h) (λ j _ _. refl);
+              freeGroup =
+                  upd-all (λ j x. groupTaken x ≡ false → x ≡ noGroup) (λ (g : ℕ). noGroup) 0 (newGroup 0 0 0)
+                  (λ h. clash true refl h) (λ j _ _. refl);
               freeProcess = λ p e. refl;
             };
         owned = ap (λ x. x .owner) root-new;

@@ -1,4 +1,5 @@
--- Every accepted call leaves a well-formed tree well formed, so every tree that calls can reach is. Assumes nothing.
+-- Every accepted call makes one of the changes of Changes.antt: `change` is the one place where each call's checks meet its
+-- effect. So it leaves a well-formed tree well formed, and every tree that calls can reach is. Assumes nothing.
 use Prim.Native.Nat.{ℕ, _+_, _≤_}
 use native.Mathlib.Omega.{arith}
 use mathlib.Core.Bool.{true, false, not, _&&_}
@@ -204,7 +205,13 @@ pub change : (t : Tree) (c : Call) → WellFormed t → Pass (checks (factsOf t)
 unfolding effect checks Pass chargeChecks forkChecks
 change t (Call.make user parent new) w k =
     made user parent new refl
-    (record { above = (search); dead = untaken-group (t .group new) (search); low = omega (arith, leb-false); shallow = omega (arith, leb-false); may = (search) })
+    (record {
+      above = (search);
+      dead = untaken-group (t .group new) (search);
+      low = omega (arith, leb-false);
+      shallow = omega (arith, leb-false);
+      may = (search);
+    })
 change t (Call.remove user g) w k =
     removal g refl
     (record {

@@ -56,13 +56,15 @@ module _ (t : Tree) (w : WellFormed t) where
   in-root : (g n : ℕ) → lives t g ≡ true → weigh (inside (parents t) 0 g) n ≡ n
   in-root g n l = weigh-yes _ n (root-inside (w .sound) g l)
 
-  head-in-root : (l : Place) → ((g : ℕ) → l ≡ at g → lives t g ≡ true) → weigh (inside (parents t) 0 (groupOf l)) (headcount l) ≡ headcount l
+  head-in-root : (l : Place) → ((g : ℕ) → l ≡ at g → lives t g ≡ true)
+      → weigh (inside (parents t) 0 (groupOf l)) (headcount l) ≡ headcount l
   head-in-root nowhere h = weigh-zero _
   head-in-root (at g) h = in-root g 1 (h g refl)
 
   -- a process is put somewhere, or nowhere
   held-placed : {c : Call} (p : ℕ) (v : Process) → Placing t c p v → (r : Resource)
-      → heldIn (atProcess t p v) r + ofResource r Processes (headcount (places t p)) ≡ heldIn t r + ofResource r Processes (headcount (v .place))
+      → heldIn (atProcess t p v) r + ofResource r Processes (headcount (places t p))
+      ≡ heldIn t r + ofResource r Processes (headcount (v .place))
   held-placed p v k Pages = refl
   held-placed p v k Processes =
       omega (
@@ -107,7 +109,8 @@ module _ (t : Tree) (w : WellFormed t) where
   balanced-step r c =
       by-verdict t c
       (λ e. let z : eqb (reply t c .number) 0 ≡ true = rw (reply-number t c, e) in
-      rw (z, step-accepted t c e) (ap₂ _+_ refl (weigh-yes true _ refl) ∙ balanced-change (change t c w (passed t c e)) r ∙ ap₂ _+_ refl (sym (weigh-yes true _ refl))))
+      rw (z, step-accepted t c e)
+      (ap₂ _+_ refl (weigh-yes true _ refl) ∙ balanced-change (change t c w (passed t c e)) r ∙ ap₂ _+_ refl (sym (weigh-yes true _ refl))))
       (λ x e. let z : eqb (reply t c .number) 0 ≡ false = ne-eqb _ 0 (λ d. errno-positive x (sym (reply-number t c ∙ ap answerNumber e) ∙ d)) in
       rw (z, step-refused t c x e) (ap₂ _+_ refl (weigh-no false _ refl ∙ sym (weigh-no false _ refl))))
 
