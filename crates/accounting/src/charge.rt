@@ -1,12 +1,11 @@
 // Charge: pages for the group of a process. The search for room comes before the first store, so there is nothing to undo.
 ghost use mathlib.Core.Path.{_≡_};
 ghost use Rattle.model.specs.Checks.{first};
-ghost use Rattle.model.specs.Hierarchy.{factsOf};
-ghost use Rattle.model.specs.Calls.{charge, chargeChecks};
-ghost use Rattle.model.specs.Replies.{chargeAnswer};
+ghost use Rattle.model.specs.Calls.{chargeChecks};
+ghost use Rattle.model.specs.Replies.{forCharge};
 ghost use Rattle.tree.specs.Layout.{view};
 ghost use Rattle.tree.specs.Kept.{Kept};
-ghost use Rattle.tree.specs.Calling.{Calling};
+ghost use Rattle.tree.specs.Calling.{Asked};
 use super::pages::LARGEST_CHARGE;
 use super::pages::adjust_pages;
 use model::Answer;
@@ -46,7 +45,7 @@ fn vet_charge(tree: &Tree, process: ProcessId, pages: u64) -> Answer
 // many were consulted; where all have, how many they are.
 pub fn charge(tree: &mut Tree, process: ProcessId, pages: u64) -> RoomAnswer
     requires { ⌜ Kept (now tree) ⌝ }
-    ensures { λ r. ⌜ Calling (now (tree .entry)) (now (tree .exit)) (charge (process .0) pages) (chargeAnswer (factsOf (view (now (tree .entry)))) (process .0) pages) r ⌝ }
+    ensures { λ r. ⌜ Asked (now (tree .entry)) (now (tree .exit)) (forCharge {p = process .0} {n = pages}) r ⌝ }
 {
     let vetted = vet_charge(tree, process, pages);
     if let Answer::Refused(errno) = vetted {

@@ -3,7 +3,7 @@ ghost use mathlib.Core.Path.{_≡_};
 ghost use Rattle.model.specs.Calls.{release, verdict};
 ghost use Rattle.tree.specs.Layout.{view};
 ghost use Rattle.tree.specs.Kept.{Kept};
-ghost use Rattle.tree.specs.Calling.{Calling};
+ghost use Rattle.tree.specs.Calling.{Called};
 use super::pages::LARGEST_CHARGE;
 use super::pages::adjust_pages;
 use model::Answer;
@@ -39,7 +39,7 @@ fn vet_release(tree: &Tree, group: GroupId, pages: u64) -> Answer
 // Takes pages from a group's own.
 pub fn release(tree: &mut Tree, group: GroupId, pages: u64) -> Answer
     requires { ⌜ Kept (now tree) ⌝ }
-    ensures { λ r. ⌜ Calling (now (tree .entry)) (now (tree .exit)) (release (group .0) pages) (verdict (view (now (tree .entry))) (release (group .0) pages)) r ⌝ }
+    ensures { λ r. ⌜ Called (now (tree .entry)) (now (tree .exit)) (release (group .0) pages) r ⌝ }
 {
     let vetted = vet_release(tree, group, pages);
     let Answer::Done = vetted else {

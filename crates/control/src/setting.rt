@@ -4,13 +4,13 @@ ghost use mathlib.Core.Bool.{true};
 ghost use mathlib.Core.Path.{_≡_};
 ghost use Rattle.model.specs.Settings.{mapLimit, toAmount, figureIn, largest};
 ghost use Rattle.model.specs.Checks.{first};
-ghost use Rattle.model.specs.Calls.{lineValue, verdict, writeSetting};
+ghost use Rattle.model.specs.Calls.{lineValue, writeSetting};
 ghost use Rattle.model.specs.Effects.{written};
 ghost use Rattle.text.specs.Value.{readingOf, told};
 ghost use Rattle.tree.specs.Layout.{view};
 ghost use Rattle.tree.specs.Changes.{Wrote};
 ghost use Rattle.tree.specs.Kept.{Kept};
-ghost use Rattle.tree.specs.Calling.{Calling};
+ghost use Rattle.tree.specs.Calling.{Called};
 ghost use Rattle.control.specs.Stores.{changedAt};
 ghost use Rattle.control.specs.Values.{Settable, placeChecks, readingAnswer};
 use model::Answer;
@@ -130,7 +130,7 @@ fn vet_setting(t: &Tree, user: u32, g: GroupId, file: &[u8], line: &[u8]) -> Ans
 // "A limit below present usage is accepted."
 pub fn write_setting(tree: &mut Tree, user: u32, group: GroupId, file: &[u8], line: &[u8]) -> Answer
     requires { ⌜ Kept (now tree) ⌝ }
-    ensures { λ r. ⌜ Calling (now (tree .entry)) (now (tree .exit)) (writeSetting user (group .0) (now (file .entry)) (now (line .entry))) (verdict (view (now (tree .entry))) (writeSetting user (group .0) (now (file .entry)) (now (line .entry)))) r ⌝ }
+    ensures { λ r. ⌜ Called (now (tree .entry)) (now (tree .exit)) (writeSetting user (group .0) (now (file .entry)) (now (line .entry))) r ⌝ }
 {
     let vetted = vet_setting(tree, user, group, file, line);
     let Answer::Done = vetted else {

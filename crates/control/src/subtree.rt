@@ -4,7 +4,7 @@ ghost use Rattle.model.specs.Calls.{verdict, writeControl};
 ghost use Rattle.tree.specs.Layout.{view};
 ghost use Rattle.tree.specs.Counters.{HasParent};
 ghost use Rattle.tree.specs.Kept.{Kept};
-ghost use Rattle.tree.specs.Calling.{Calling};
+ghost use Rattle.tree.specs.Calling.{Called};
 ghost use Rattle.control.specs.Flags.{asksOf, joinsPopulated};
 use super::flags::Test;
 use super::flags::for_each;
@@ -75,7 +75,7 @@ fn vet_control(t: &Tree, user: u32, g: GroupId, line: &[u8]) -> Answer
 // "The last word on a controller counts", all or nothing: the set, and the settings of what leaves it in all children.
 pub fn write_subtree_control(tree: &mut Tree, user: u32, group: GroupId, line: &[u8]) -> Answer
     requires { ⌜ Kept (now tree) ⌝ }
-    ensures { λ r. ⌜ Calling (now (tree .entry)) (now (tree .exit)) (writeControl user (group .0) (now (line .entry))) (verdict (view (now (tree .entry))) (writeControl user (group .0) (now (line .entry)))) r ⌝ }
+    ensures { λ r. ⌜ Called (now (tree .entry)) (now (tree .exit)) (writeControl user (group .0) (now (line .entry))) r ⌝ }
 {
     let vetted = vet_control(tree, user, group, line);
     let Answer::Done = vetted else {

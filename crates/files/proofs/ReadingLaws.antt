@@ -16,6 +16,7 @@ use Rattle.model.specs.Hierarchy.{factsOf}
 use Rattle.model.specs.Names.{fileNamed}
 use Rattle.model.specs.Files.{isPresent, contents, membershipLine, fits}
 use Rattle.model.specs.Calls.{Call, read, membership, checks, verdict, fileText}
+use Rattle.model.specs.Replies.{textOf, bufferOf}
 use Rattle.model.specs.declared.Errno.{Errno}
 use Rattle.model.specs.declared.Errno.the-variants.{Einval, Enoent, Esrch, Enospc}
 use Rattle.model.specs.declared.Answer.the-variants.{Done, Refused}
@@ -29,16 +30,16 @@ use Rattle.text.specs.Write.{Wrote, Delivered, delivery}
 use Rattle.text.specs.declared.name.FileName.{FileName}
 use Rattle.tree.specs.Layout.{view}
 use Rattle.tree.specs.Kept.{Kept}
-use Rattle.files.specs.Reading.{Reading}
+use Rattle.tree.specs.Calling.{Delivering}
 
-module _ (xs : List ℕ) (c : Call) (text old : List ℕ) where
-  reading-refused : (e : Errno) → verdict (view xs) c ≡ Refused e → Reading xs c text old (ReadAnswer.Refused e) old
+module _ (xs : List ℕ) (c : Call) where
+  reading-refused : (e : Errno) → verdict (view xs) c ≡ Refused e → Delivering xs c (ReadAnswer.Refused e) (bufferOf c)
   reading-refused e v = record { answer = rw v; buffer = rw v }
 
-  reading-delivered : verdict (view xs) c ≡ delivery text old → {part new : List ℕ} {r : ReadAnswer} → part ≡ text
-      → Delivered part old r new → Reading xs c text old r new
+  reading-delivered : verdict (view xs) c ≡ delivery (textOf (factsOf (view xs)) c) (bufferOf c) → {part new : List ℕ} {r : ReadAnswer}
+      → part ≡ textOf (factsOf (view xs)) c → Delivered part (bufferOf c) r new → Delivering xs c r new
   reading-delivered v {part} {new} {r} p d =
-      let w : Delivered text old r new = rw p at d in
+      let w : Delivered (textOf (factsOf (view xs)) c) (bufferOf c) r new = rw p at d in
       record { answer = rw v (w .answer); buffer = rw v (w .buffer) }
 
 -- the last check of both calls is the delivery's
@@ -54,21 +55,21 @@ last-check text old = go (fits text old)
 
 module _ (xs : List ℕ) (g : ℕ) (name old : List ℕ) where
   abbrev Read : ReadAnswer → List ℕ → Type 0
-  Read r new = Reading xs (read g name old) (fileText (factsOf (view xs)) g name) old r new
+  Read r new = Delivering xs (read g name old) r new
 
   pub read-no-number : groups ≤ g → Read (ReadAnswer.Refused Einval) old
   unfolding verdict checks
-  read-no-number h = reading-refused _ _ _ _ Einval (sym (says-first (barred (le-leb groups g h))))
+  read-no-number h = reading-refused _ _ Einval (sym (says-first (barred (le-leb groups g h))))
 
   module _ (h : g < groups) where
     pub read-dead : lives (view xs) g ≡ false → Read (ReadAnswer.Refused Enoent) old
     unfolding verdict checks
-    read-dead d = reading-refused _ _ _ _ Enoent (sym (says-first (past (lt-leb groups g h) (lacking d))))
+    read-dead d = reading-refused _ _ Enoent (sym (says-first (past (lt-leb groups g h) (lacking d))))
 
     module _ (l : lives (view xs) g ≡ true) where
       read-absent : passes (fileNamed name) (isPresent (view xs) g) ≡ false → Read (ReadAnswer.Refused Enoent) old
       unfolding verdict checks
-      read-absent a = reading-refused _ _ _ _ Enoent (sym (says-first (past (lt-leb groups g h) (met l (lacking a)))))
+      read-absent a = reading-refused _ _ Enoent (sym (says-first (past (lt-leb groups g h) (met l (lacking a)))))
 
       pub read-unknown : FileName.Unknown ≡ asFileName (fileNamed name) → Read (ReadAnswer.Refused Enoent) old
       read-unknown u = read-absent (go (fileNamed name) u)
@@ -106,17 +107,17 @@ module _ (xs : List ℕ) (g : ℕ) (name old : List ℕ) where
         pub read-delivered : isPresent (view xs) g f ≡ true → {a b : List ℕ} {k : ℕ}
             → Wrote a 0 (contents (factsOf (view xs)) g f) b k → {r : ReadAnswer} {new : List ℕ}
             → Delivered (take k b) old r new → Read r new
-        read-delivered a w d = reading-delivered _ _ _ _ (accepted a) (w .front ∙ sym text) d
+        read-delivered a w d = reading-delivered _ _ (accepted a) (w .front ∙ sym text) d
 
 -- ---- membership
 
 module _ (xs : List ℕ) (p : ℕ) (old : List ℕ) where
   abbrev Membership : ReadAnswer → List ℕ → Type 0
-  Membership r new = Reading xs (membership p old) (membershipLine (view xs) p) old r new
+  Membership r new = Delivering xs (membership p old) r new
 
   pub membership-dead : isLive (places (view xs) p) ≡ false → Membership (ReadAnswer.Refused Esrch) old
   unfolding verdict checks
-  membership-dead d = reading-refused _ _ _ _ Esrch (sym (says-first (lacking d)))
+  membership-dead d = reading-refused _ _ Esrch (sym (says-first (lacking d)))
 
   -- a number out of range is not live
   pub membership-no-number : Kept xs → processes ≤ p → Membership (ReadAnswer.Refused Esrch) old
@@ -131,7 +132,7 @@ module _ (xs : List ℕ) (p : ℕ) (old : List ℕ) where
       → Delivered (take k b) old r new → Membership r new
   unfolding verdict checks
   membership-delivered l w d =
-      reading-delivered _ _ _ _
+      reading-delivered xs (membership p old)
       (sym (says-first (met l (first-says (need (fits (membershipLine (view xs) p) old) Enospc ∷ []))))
       ∙ last-check (membershipLine (view xs) p) old)
       (w .front)

@@ -1,5 +1,4 @@
--- What the calls that deliver a text promise, and what the writers of its parts ask and write: document 01, "What a
--- reader sees". Assumes nothing.
+-- What the writers of a text's parts ask and write: document 01, "What a reader sees". Assumes nothing.
 use Prim.Native.Nat.{ℕ, _+_, _*_, _≤_}
 use mathlib.Core.Bool.{Bool, true}
 use mathlib.Core.List.{List, [], _∷_}
@@ -11,16 +10,8 @@ use Rattle.model.specs.Sizes.{processes, deepest}
 use Rattle.model.specs.Tree.{Tree, isLive, parents, depths, places}
 use Rattle.model.specs.Text.{bytes, newline, space}
 use Rattle.model.specs.Files.{path}
-use Rattle.model.specs.Calls.{Call, verdict}
-use Rattle.model.specs.Replies.{readAnswer, bufferAfter}
-use Rattle.model.specs.declared.ReadAnswer.{ReadAnswer}
 use Rattle.tree.specs.Layout.{view}
 use Rattle.tree.specs.Kept.{Kept, KeptAt}
-
--- the answer and the whole reply buffer after call c, whose text is given
-pub record Reading (xs : List ℕ) (c : Call) (text old : List ℕ) (r : ReadAnswer) (new : List ℕ) : Type 0 where
-  pub answer : r ≡ readAnswer (verdict (view xs) c) text
-  pub buffer : new ≡ bufferAfter (verdict (view xs) c) text old
 
 -- no file is longer: a line of cgroup.procs has four bytes at most
 abbrev pub longestText : ℕ

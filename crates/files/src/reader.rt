@@ -1,13 +1,14 @@
 // The two calls that deliver a text: a file of a group, and the membership line of a process. Anyone may read.
 ghost use mathlib.Core.Path.{_≡_};
 ghost use Rattle.model.specs.Hierarchy.{factsOf};
-ghost use Rattle.model.specs.Files.{isPresent, contents, membershipLine};
-ghost use Rattle.model.specs.Calls.{read, membership, fileText};
+ghost use Rattle.model.specs.Files.{isPresent, contents};
+ghost use Rattle.model.specs.Calls.{read, membership};
 ghost use Rattle.text.specs.Write.{Wrote};
 ghost use Rattle.tree.specs.Layout.{view};
 ghost use Rattle.tree.specs.Counters.{HasParent};
 ghost use Rattle.tree.specs.Kept.{Kept};
-ghost use Rattle.files.specs.Reading.{Ready, Reading};
+ghost use Rattle.tree.specs.Calling.{Delivering};
+ghost use Rattle.files.specs.Reading.{Ready};
 use super::list::put_controllers;
 use super::list::put_procs;
 use super::list::put_subtree_control;
@@ -72,7 +73,7 @@ fn render(t: &Tree, g: GroupId, file: File, out: &mut [u8]) -> usize
 // than the text. A refusal leaves the reply as it was.
 pub fn read(tree: &Tree, group: GroupId, file: &[u8], reply: &mut [u8]) -> ReadAnswer
     requires { ⌜ Kept (now tree) ⌝ }
-    ensures { λ r. ⌜ Reading (now (tree .entry)) (read (group .0) (now (file .entry)) (now (reply .entry))) (fileText (factsOf (view (now (tree .entry)))) (group .0) (now (file .entry))) (now (reply .entry)) r (now (reply .exit)) ⌝ }
+    ensures { λ r. ⌜ Delivering (now (tree .entry)) (read (group .0) (now (file .entry)) (now (reply .entry))) r (now (reply .exit)) ⌝ }
 {
     if GROUPS <= group.0 {
         return ReadAnswer::Refused(Errno::Einval);
@@ -96,7 +97,7 @@ pub fn read(tree: &Tree, group: GroupId, file: &[u8], reply: &mut [u8]) -> ReadA
 // it was.
 pub fn membership(tree: &Tree, process: ProcessId, reply: &mut [u8]) -> ReadAnswer
     requires { ⌜ Kept (now tree) ⌝ }
-    ensures { λ r. ⌜ Reading (now (tree .entry)) (membership (process .0) (now (reply .entry))) (membershipLine (view (now (tree .entry))) (process .0)) (now (reply .entry)) r (now (reply .exit)) ⌝ }
+    ensures { λ r. ⌜ Delivering (now (tree .entry)) (membership (process .0) (now (reply .entry))) r (now (reply .exit)) ⌝ }
 {
     if PROCESSES <= process.0 {
         return ReadAnswer::Refused(Errno::Esrch);

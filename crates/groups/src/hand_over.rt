@@ -3,7 +3,7 @@ ghost use mathlib.Core.Path.{_≡_};
 ghost use Rattle.model.specs.Calls.{handOver, verdict};
 ghost use Rattle.tree.specs.Layout.{view};
 ghost use Rattle.tree.specs.Kept.{Kept};
-ghost use Rattle.tree.specs.Calling.{Calling};
+ghost use Rattle.tree.specs.Calling.{Called};
 use model::Answer;
 use model::Errno;
 use model::GroupId;
@@ -35,7 +35,7 @@ fn vet_hand_over(t: &Tree, user: u32, g: GroupId, owner: u32) -> Answer
 // Einval: the root, or a number out of range. Enoent: not live. Eacces: the user is not 0.
 pub fn hand_over(tree: &mut Tree, user: u32, group: GroupId, owner: u32) -> Answer
     requires { ⌜ Kept (now tree) ⌝ }
-    ensures { λ r. ⌜ Calling (now (tree .entry)) (now (tree .exit)) (handOver user (group .0) owner) (verdict (view (now (tree .entry))) (handOver user (group .0) owner)) r ⌝ }
+    ensures { λ r. ⌜ Called (now (tree .entry)) (now (tree .exit)) (handOver user (group .0) owner) r ⌝ }
 {
     let v = vet_hand_over(tree, user, group, owner);
     let Answer::Done = v else {

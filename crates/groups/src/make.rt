@@ -3,7 +3,7 @@ ghost use mathlib.Core.Path.{_≡_};
 ghost use Rattle.model.specs.Calls.{make, verdict};
 ghost use Rattle.tree.specs.Layout.{view};
 ghost use Rattle.tree.specs.Kept.{Kept};
-ghost use Rattle.tree.specs.Calling.{Calling};
+ghost use Rattle.tree.specs.Calling.{Called};
 use model::Answer;
 use model::Errno;
 use model::GroupId;
@@ -48,7 +48,7 @@ fn vet_make(t: &Tree, user: u32, above: GroupId, new: GroupId) -> Answer
 // write the parent. Eagain: the parent is as deep as a group can be.
 pub fn make(tree: &mut Tree, user: u32, parent: GroupId, new: GroupId) -> Answer
     requires { ⌜ Kept (now tree) ⌝ }
-    ensures { λ r. ⌜ Calling (now (tree .entry)) (now (tree .exit)) (make user (parent .0) (new .0)) (verdict (view (now (tree .entry))) (make user (parent .0) (new .0))) r ⌝ }
+    ensures { λ r. ⌜ Called (now (tree .entry)) (now (tree .exit)) (make user (parent .0) (new .0)) r ⌝ }
 {
     let v = vet_make(tree, user, parent, new);
     let Answer::Done = v else {

@@ -5,7 +5,7 @@ ghost use Rattle.model.specs.Rules.{hasChild, hasProcess};
 ghost use Rattle.model.specs.Calls.{remove, verdict};
 ghost use Rattle.tree.specs.Layout.{view};
 ghost use Rattle.tree.specs.Kept.{Kept, KeptAt};
-ghost use Rattle.tree.specs.Calling.{Calling};
+ghost use Rattle.tree.specs.Calling.{Called};
 use model::Answer;
 use model::Errno;
 use model::GroupId;
@@ -69,7 +69,7 @@ fn vet_remove(t: &Tree, user: u32, g: GroupId) -> Answer
 // child or a live process in the group.
 pub fn remove(tree: &mut Tree, user: u32, group: GroupId) -> Answer
     requires { ⌜ Kept (now tree) ⌝ }
-    ensures { λ r. ⌜ Calling (now (tree .entry)) (now (tree .exit)) (remove user (group .0)) (verdict (view (now (tree .entry))) (remove user (group .0))) r ⌝ }
+    ensures { λ r. ⌜ Called (now (tree .entry)) (now (tree .exit)) (remove user (group .0)) r ⌝ }
 {
     let v = vet_remove(tree, user, group);
     let Answer::Done = v else {

@@ -2,12 +2,11 @@
 ghost use Prim.Native.Nat.{ℕ};
 ghost use mathlib.Core.Path.{_≡_};
 ghost use Rattle.model.specs.Checks.{first};
-ghost use Rattle.model.specs.Hierarchy.{factsOf};
-ghost use Rattle.model.specs.Calls.{admit, fork, forkChecks, verdict};
-ghost use Rattle.model.specs.Replies.{forkAnswer};
+ghost use Rattle.model.specs.Calls.{admit, forkChecks, verdict};
+ghost use Rattle.model.specs.Replies.{forFork};
 ghost use Rattle.tree.specs.Layout.{view};
 ghost use Rattle.tree.specs.Kept.{Kept};
-ghost use Rattle.tree.specs.Calling.{Calling};
+ghost use Rattle.tree.specs.Calling.{Called, Asked};
 use super::place::enter;
 use model::Answer;
 use model::Errno;
@@ -44,7 +43,7 @@ fn vet_admit(tree: &Tree, process: ProcessId) -> Answer
 // A process starts in the root. No limit stops it.
 pub fn admit(tree: &mut Tree, process: ProcessId, user: u32) -> Answer
     requires { ⌜ Kept (now tree) ⌝ }
-    ensures { λ r. ⌜ Calling (now (tree .entry)) (now (tree .exit)) (admit (process .0) user) (verdict (view (now (tree .entry))) (admit (process .0) user)) r ⌝ }
+    ensures { λ r. ⌜ Called (now (tree .entry)) (now (tree .exit)) (admit (process .0) user) r ⌝ }
 {
     let vetted = vet_admit(tree, process);
     let Answer::Done = vetted else {
@@ -81,7 +80,7 @@ fn vet_fork(tree: &Tree, parent: ProcessId, new: ProcessId) -> Answer
 // going up, and how many were consulted; where all have, how many they are.
 pub fn fork(tree: &mut Tree, parent: ProcessId, new: ProcessId) -> RoomAnswer
     requires { ⌜ Kept (now tree) ⌝ }
-    ensures { λ r. ⌜ Calling (now (tree .entry)) (now (tree .exit)) (fork (parent .0) (new .0)) (forkAnswer (factsOf (view (now (tree .entry)))) (parent .0) (new .0)) r ⌝ }
+    ensures { λ r. ⌜ Asked (now (tree .entry)) (now (tree .exit)) (forFork {p = parent .0} {new = new .0}) r ⌝ }
 {
     let vetted = vet_fork(tree, parent, new);
     if let Answer::Refused(errno) = vetted {

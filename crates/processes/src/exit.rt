@@ -3,7 +3,7 @@ ghost use mathlib.Core.Path.{_≡_};
 ghost use Rattle.model.specs.Calls.{exit, verdict};
 ghost use Rattle.tree.specs.Layout.{view};
 ghost use Rattle.tree.specs.Kept.{Kept};
-ghost use Rattle.tree.specs.Calling.{Calling};
+ghost use Rattle.tree.specs.Calling.{Called};
 use super::place::leave;
 use model::Answer;
 use model::Errno;
@@ -29,7 +29,7 @@ fn vet_exit(tree: &Tree, process: ProcessId) -> Answer
 // The process's number is free afterwards.
 pub fn exit(tree: &mut Tree, process: ProcessId) -> Answer
     requires { ⌜ Kept (now tree) ⌝ }
-    ensures { λ r. ⌜ Calling (now (tree .entry)) (now (tree .exit)) (exit (process .0)) (verdict (view (now (tree .entry))) (exit (process .0))) r ⌝ }
+    ensures { λ r. ⌜ Called (now (tree .entry)) (now (tree .exit)) (exit (process .0)) r ⌝ }
 {
     let vetted = vet_exit(tree, process);
     let Answer::Done = vetted else {

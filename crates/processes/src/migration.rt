@@ -3,10 +3,10 @@
 ghost use mathlib.Core.Path.{_≡_};
 ghost use Rattle.model.specs.Checks.{first};
 ghost use Rattle.model.specs.Rules.{mayMove, lineProcess};
-ghost use Rattle.model.specs.Calls.{writeProcs, verdict};
+ghost use Rattle.model.specs.Calls.{writeProcs};
 ghost use Rattle.tree.specs.Layout.{view};
 ghost use Rattle.tree.specs.Kept.{Kept, KeptAt};
-ghost use Rattle.tree.specs.Calling.{Calling};
+ghost use Rattle.tree.specs.Calling.{Called};
 ghost use Rattle.processes.specs.Place.{Moving};
 ghost use Rattle.processes.specs.Migration.{groupChecks, lineChecks, numberChecks, moveChecks, namedBy, isClosed};
 use super::place::relocate;
@@ -135,7 +135,7 @@ fn vet_move(tree: &Tree, user: u32, process: ProcessId, group: GroupId) -> Answe
 // Moves the process that the line names into a group.
 pub fn write_procs(tree: &mut Tree, user: u32, group: GroupId, line: &[u8]) -> Answer
     requires { ⌜ Kept (now tree) ⌝ }
-    ensures { λ r. ⌜ Calling (now (tree .entry)) (now (tree .exit)) (writeProcs user (group .0) (now (line .entry))) (verdict (view (now (tree .entry))) (writeProcs user (group .0) (now (line .entry)))) r ⌝ }
+    ensures { λ r. ⌜ Called (now (tree .entry)) (now (tree .exit)) (writeProcs user (group .0) (now (line .entry))) r ⌝ }
 {
     let open = vet_group(tree, user, group);
     let Answer::Done = open else {

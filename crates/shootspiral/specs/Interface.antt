@@ -1,5 +1,5 @@
 -- What the C interface tells: document 01's numbers, and the values beside them as words. Assumes nothing.
-use Prim.Native.Nat.{ℕ}
+use Prim.Native.Nat.{ℕ, _-_, _^_}
 use mathlib.Core.List.{List, [], _∷_}
 use mathlib.Core.Option.{Option, none, some}
 use mathlib.Core.Path.{_≡_}
@@ -8,7 +8,7 @@ use Rattle.model.specs.Replies.{Reply}
 
 -- 2^64 - 1 where no group is named
 abbrev pub groupWord : Option ℕ → ℕ
-groupWord none = 18446744073709551615
+groupWord none = 2 ^ 64 - 1
 groupWord (some g) = g
 
 -- what a charge or a fork tells: the first group without room, and the number of groups consulted

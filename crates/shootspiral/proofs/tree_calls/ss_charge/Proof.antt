@@ -1,5 +1,6 @@
 -- `shootspiral::tree_calls::ss_charge` meets its contract. Assumes nothing.
-use Rattle.shootspiral.proofs.InterfaceLaws.{charge-number, charge-told}
+use Rattle.model.specs.Replies.{forCharge}
+use Rattle.shootspiral.proofs.InterfaceLaws.{asked-number, asked-told}
 use borrow.Author.Needs.{needs}
 use Rattle.shootspiral.proofs.tree_calls.ss_charge.Statement.{statement}
 use Rattle.shootspiral.proofs.tree_calls.ss_charge.Tie as tie
@@ -21,7 +22,7 @@ returns c =
     let k = c .before .before in
     let g = k .before in
     let r = g .before .charge .ensures in
-    (charge-number r (c .room-number .ensures), charge-told _ _ r (g .room-group .ensures) (k .room-count .ensures))
+    (asked-number forCharge r (c .room-number .ensures), asked-told forCharge r _ _ (g .room-group .ensures) (k .room-count .ensures))
 
 pub ss-charge-spec : {M : Type 1} → statement M
 ss-charge-spec =

@@ -1,5 +1,6 @@
 -- `shootspiral::tree_calls::ss_fork` meets its contract. Assumes nothing.
-use Rattle.shootspiral.proofs.InterfaceLaws.{fork-number, fork-told}
+use Rattle.model.specs.Replies.{forFork}
+use Rattle.shootspiral.proofs.InterfaceLaws.{asked-number, asked-told}
 use borrow.Author.Needs.{needs}
 use Rattle.shootspiral.proofs.tree_calls.ss_fork.Statement.{statement}
 use Rattle.shootspiral.proofs.tree_calls.ss_fork.Tie as tie
@@ -21,7 +22,7 @@ returns c =
     let k = c .before .before in
     let g = k .before in
     let r = g .before .fork .ensures in
-    (fork-number r (c .room-number .ensures), fork-told _ _ r (g .room-group .ensures) (k .room-count .ensures))
+    (asked-number forFork r (c .room-number .ensures), asked-told forFork r _ _ (g .room-group .ensures) (k .room-count .ensures))
 
 pub ss-fork-spec : {M : Type 1} → statement M
 ss-fork-spec =
