@@ -2,12 +2,13 @@
 -- is said of every call goes by these six and not by the calls, so that a call that makes no new kind of change costs one clause,
 -- that of `change` in Steps.antt. Assumes nothing.
 use Prim.Native.Nat.{ℕ, suc, _+_, _<_}
+use native.Mathlib.Omega.{arith}
 use mathlib.Core.Bool.{true, false}
 use mathlib.Core.List.{List}
-use mathlib.Core.Logic.{_≢_, _⊎_}
-use mathlib.Core.Path.{_≡_}
+use mathlib.Core.Logic.{_≢_, _⊎_, ⊎-elim}
+use mathlib.Core.Path.{_≡_, ap, sym, _∙_}
 use Rattle.model.specs.Sizes.{groups, processes, deepest}
-use Rattle.model.specs.Tree.{Tree, Group, Process, at, noProcess, processTaken, newGroup, atGroup, atProcess, cores, lives, parents, depths, owners, sets, places}
+use Rattle.model.specs.Tree.{Tree, Group, Process, nowhere, at, isLive, noProcess, processTaken, newGroup, atGroup, atProcess, cores, lives, parents, depths, owners, sets, places}
 use Rattle.model.specs.Hierarchy.{inside, headcount, usage}
 use Rattle.model.specs.Rooms.{over, actingLimit}
 use Rattle.model.specs.Rules.{mayWrite, lineProcess, leaving}
@@ -17,6 +18,7 @@ use Rattle.model.specs.Totals.{Flow, flow}
 use Rattle.model.specs.declared.Resource.{Resource}
 use Rattle.model.specs.declared.Resource.the-variants.{Pages, Processes}
 use Rattle.model.specs.declared.Controller.{Controller}
+use Rattle.model.proofs.FunctionLaws.{clash}
 use Rattle.model.proofs.RuleLaws.{NoChild}
 use Rattle.model.proofs.Preservation.{Patch}
 use Rattle.model.proofs.ControlPreservation.{Control}
@@ -45,15 +47,31 @@ pub data Flowed (c : Call) (s : Resource) (Room : ℕ → Type 0) (a b : ℕ) : 
   came : (n : ℕ) → flow c ≡ Flow.into s n → b ≡ a + n → Room n → Flowed c s Room a b
   went : (n : ℕ) → flow c ≡ Flow.out s n → b + n ≡ a → Flowed c s Room a b
 
--- a process that is put somewhere, or nowhere
+-- a process that is put nowhere, or in a live group that may have processes
+pub record Standing (t : Tree) (v : Process) : Type 0 where
+  pub group : ℕ
+  pub here : v .place ≡ at group
+  pub alive : lives t group ≡ true
+  pub quiet : group ≢ 0 → (x : Controller) → sets t group x ≡ false
+
 pub record Placing (t : Tree) (c : Call) (p : ℕ) (v : Process) : Type 0 where
   pub number : p ≢ 0
   pub low : p < processes
-  pub group : (g : ℕ) → v .place ≡ at g → lives t g ≡ true
-  pub quiet : (g : ℕ) → v .place ≡ at g → g ≢ 0 → (x : Controller) → sets t g x ≡ false
-  pub blank : processTaken v ≡ false → v ≡ noProcess
+  pub stands : (v ≡ noProcess) ⊎ Standing t v
   pub moved : (g h : ℕ) → places t p ≡ at g → v .place ≡ at h → (g ≡ h) ⊎ Moves c p h
   pub heads : Flowed c Processes (λ _. Unit {0}) (headcount (places t p)) (headcount (v .place))
+
+module _ {t : Tree} {c : Call} {p : ℕ} {v : Process} (k : Placing t c p v) where
+  pub place-stands : (g : ℕ) → v .place ≡ at g → (lives t g ≡ true) × (g ≢ 0 → (x : Controller) → sets t g x ≡ false)
+  place-stands g e =
+      ⊎-elim
+      (λ (n : v ≡ noProcess). let m : nowhere ≡ at g = sym (ap (λ x. x .place) n) ∙ e in
+      let z : _≡_ {A = ℕ} 0 1 = cc in absurd (omega arith))
+      (λ (s : Standing t v). let d : s .group ≡ g = cc (s .here) in rw (← d) (s .alive, s .quiet))
+      (k .stands)
+
+  pub place-blank : processTaken v ≡ false → v ≡ noProcess
+  place-blank f = ⊎-elim (λ n. n) (λ (s : Standing t v). clash (isLive (v .place)) (rw (s .here)) f) (k .stands)
 
 -- "would pass memory.max" of no group on the way up from g
 abbrev pub RoomAbove : Tree → ℕ → ℕ → Type 0
@@ -66,6 +84,7 @@ pub record Altering (t : Tree) (c : Call) (g : ℕ) (v : Group) : Type 0 where
   pub pages : Flowed c Pages (RoomAbove t g) (t .group g .core .own) (v .core .own)
   pub limit : (v .core .limit Pages ≡ t .group g .core .limit Pages) ⊎ WritesSetting c
 
+-- a group that is made with a free number, under one that its maker may write
 pub record Making (t : Tree) (user parent new : ℕ) : Type 0 where
   pub above : lives t parent ≡ true
   pub dead : lives t new ≡ false
@@ -73,6 +92,7 @@ pub record Making (t : Tree) (user parent new : ℕ) : Type 0 where
   pub shallow : depths t parent < deepest
   pub may : mayWrite t user parent ≡ true
 
+-- a group without children and processes
 pub record Removing (t : Tree) (g : ℕ) : Type 0 where
   pub alive : lives t g ≡ true
   pub inner : g ≢ 0

@@ -6,7 +6,7 @@ use mathlib.Core.Bool.{true, false, not, _&&_}
 use mathlib.Core.List.{List, [], _∷_}
 use mathlib.Core.Logic.{_≢_, inl, inr}
 use mathlib.Core.Option.{Option, none, some}
-use mathlib.Core.Path.{_≡_, refl, ap, sym, _∙_}
+use mathlib.Core.Path.{_≡_, refl, ap, sym}
 use lib.Dec.{eqb}
 use borrow.Author.Tests.{eqb-false, eq-eqb, ne-eqb, leb-false, ltb-false, not-false}
 use Rattle.model.specs.Functions.{upd, passes, known}
@@ -41,7 +41,7 @@ use Rattle.model.proofs.RuleLaws.{NoChild, untaken-group, untaken-proce
 use Rattle.model.proofs.Preservation.{Patch, well-formed-after-patch, well-formed-after-place, well-formed-after-make, well-formed-after-remove}
 use Rattle.model.proofs.ControlPreservation.{child-of, Control, well-formed-after-control}
 use Rattle.model.proofs.SettingPreservation.{part-written}
-use Rattle.model.proofs.Changes.{still, came, went, RoomAbove, Change, nothing, placed, altered, made, removal, control}
+use Rattle.model.proofs.Changes.{still, came, went, place-stands, place-blank, RoomAbove, Change, nothing, placed, altered, made, removal, control}
 
 -- A step by its verdict.
 pub step-accepted : (t : Tree) (c : Call) → verdict t c ≡ Done → step t c ≡ effect t c
@@ -231,17 +231,12 @@ change t (Call.handOver user g owner) w k =
     })
 change t (Call.writeProcs user g line) w k =
     let p : ℕ = lineProcess line in
-    let lg : lives t g ≡ true = (search) in
+    let unset : (g ≢ 0 → anyController (sets t g) ≡ false) = (λ nz. and-false (not (eqb g 0)) _ (search) (rw (ne-eqb g 0 nz))) in
     placed p (record { place = at g; user = t .process p .user })
     (record {
       number = eqb-false p 0 (search);
       low = omega (arith, leb-false);
-      group = λ h e. let d : g ≡ h = cc in rw (← d) lg;
-      quiet = λ h e nz c.
-          let d : g ≡ h = cc in
-          let q : anyController (sets t g) ≡ false = and-false (not (eqb g 0)) _ (search) (rw (ne-eqb g 0 (λ z. nz (sym d ∙ z)))) in
-          rw (← d) (any-controller-none (sets t g) q c);
-      blank = λ e. clash true refl e;
+      stands = inr (record { group = g; here = refl; alive = (search); quiet = λ nz. any-controller-none (sets t g) (unset nz) });
       moved = λ h i was e.
           let d : g ≡ i = cc in
           inr (record { user = user; line = line; call = ap (λ x. Call.writeProcs user x line) d; process = refl });
@@ -262,33 +257,28 @@ change t (Call.admit p user) w k =
     (record {
       number = eqb-false p 0 (search);
       low = omega (arith, leb-false);
-      group = λ h e. let d : 0 ≡ h = cc in rw (← d) (w .sound .root);
-      quiet = λ h e nz c. let d : 0 ≡ h = cc in absurd (nz (sym d));
-      blank = λ e. clash true refl e;
+      stands = inr (record { group = 0; here = refl; alive = w .sound .root; quiet = λ nz. absurd (nz refl) });
       moved = λ g h was e. clash (isLive (places t p)) (rw was) free;
       heads = came 1 refl (rw (place-free (places t p) free) (omega arith)) tt;
     })
 change t (Call.fork p new) w k =
     let free : isLive (places t new) ≡ false = untaken-process (t .process new) (search) in
+    let here : places t p ≡ at (processGroup t p) = place-live (places t p) (search) in
     placed new (t .process p)
     (record {
       number = eqb-false new 0 (search);
       low = omega (arith, leb-false);
-      group = λ h e. w .placed .group p h e;
-      quiet = λ h e nz c. w .quiet .empty p h e nz c;
-      blank = λ e. clash (isLive (places t p)) (search) e;
+      stands = inr (record { group = processGroup t p; here = here; alive = process-lives t w p (search); quiet = w .quiet .empty p _ here });
       moved = λ g h was e. clash (isLive (places t new)) (rw was) free;
-      heads = came 1 refl (rw (place-free (places t new) free, place-live (places t p) (search)) (omega arith)) tt;
+      heads = came 1 refl (rw (place-free (places t new) free, here) (omega arith)) tt;
     })
 change t (Call.exit p) w k =
     let here : places t p ≡ at (processGroup t p) = place-live (places t p) (search) in
     placed p noProcess
     (record {
       number = process-number t w p (search);
-      low = w .placed .range p (processGroup t p) here;
-      group = λ h e. let z : _≡_ {A = ℕ} 0 1 = cc in absurd (omega arith);
-      quiet = λ h e nz c. let z : _≡_ {A = ℕ} 0 1 = cc in absurd (omega arith);
-      blank = λ e. refl;
+      low = w .placed .range p _ here;
+      stands = inl refl;
       moved = λ g h was e. let z : _≡_ {A = ℕ} 0 1 = cc in absurd (omega arith);
       heads = went 1 refl (sym (ap headcount here));
     })
@@ -313,7 +303,7 @@ change t (Call.membership p buffer) w k = nothing refl
 well-formed-change : (t : Tree) {c : Call} {u : Tree} → WellFormed t → Change t c u → WellFormed u
 well-formed-change t w (nothing f) = w
 well-formed-change t w (placed p v k) =
-    well-formed-after-place t w p v (k .number) (λ h e. (k .group h e, k .low)) (k .quiet) (k .blank)
+    well-formed-after-place t w p v (k .number) (λ h e. (place-stands k h e .0, k .low)) (λ h e. place-stands k h e .1) (place-blank k)
 well-formed-change t w (altered g v k) = well-formed-after-patch t w g v (k .patch)
 well-formed-change t w (made user parent new f k) =
     well-formed-after-make t w parent new user (k .above) (k .dead) (k .low) (k .shallow) default-new allowed-new

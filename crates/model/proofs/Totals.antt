@@ -26,7 +26,7 @@ use Rattle.model.proofs.ChainLaws.{root-inside}
 use Rattle.model.proofs.AmountLaws.{population-same, population-change, amount-after-make, amount-after-remove}
 use Rattle.model.proofs.Preservation.{Patch, usage-after-patch, cores-after-remove}
 use Rattle.model.proofs.ControlPreservation.{amount-after-control}
-use Rattle.model.proofs.Changes.{Flowed, still, came, went, Placing, Change, nothing, placed, altered, made, removal, control}
+use Rattle.model.proofs.Changes.{Flowed, still, came, went, Placing, place-stands, Change, nothing, placed, altered, made, removal, control}
 use Rattle.model.proofs.Steps.{step-accepted, step-refused, by-verdict, passed, change, well-formed-step}
 use Rattle.model.proofs.Books.{reply-number}
 
@@ -72,7 +72,7 @@ module _ (t : Tree) (w : WellFormed t) where
         ap (λ s. population (cores t) s 0) (upd-map (λ x. x .place) (t .process) p v),
         population-change (cores t) (places t) p (v .place) 0 (k .low),
         head-in-root (places t p) (w .placed .group p),
-        head-in-root (v .place) (k .group),
+        head-in-root (v .place) (λ g e. place-stands k g e .0),
       )
 
   -- own pages of a group
