@@ -1,17 +1,25 @@
 -- The stores of the two calls leave what the definitions say: neither changes what is counted. Assumes nothing.
 use Prim.Native.Nat.{ℕ}
 use mathlib.Core.Bool.{true}
-use mathlib.Core.List.{List}
+use mathlib.Core.List.{List, [], _∷_}
+use mathlib.Core.Option.{Option, some}
 use mathlib.Core.Path.{_≡_, refl, ap, ap₂, sym, _∙_}
+use lib.ListN.{drop}
 use Rattle.model.specs.Tree.{Tree, Controls, lives}
 use Rattle.model.specs.Rules.{leaving}
-use Rattle.model.specs.Checks.{first, Pass}
-use Rattle.model.specs.Calls.{writeControl, writeSetting, lineValue, checks, verdict}
+use Rattle.model.specs.Checks.{bar, need, first, Pass}
+use Rattle.model.specs.Functions.{known, passes}
+use Rattle.model.specs.Hierarchy.{factsOf}
+use Rattle.model.specs.Text.{tooLong, lineWords}
+use Rattle.model.specs.Names.{settingNamed}
+use Rattle.model.specs.Settings.{valueOf, inRange}
+use Rattle.model.specs.Calls.{writeControl, writeSetting, settingValue, lineValue, checks, verdict}
 use Rattle.model.specs.Effects.{newSet, controlled, written, effect}
-use Rattle.model.specs.declared.Errno.{Errno}
+use Rattle.model.specs.declared.Setting.{Setting}
+use Rattle.model.specs.declared.SettingValue.{SettingValue}
+use Rattle.model.specs.declared.Errno.the-variants.{Einval, Erange}
 use Rattle.model.specs.declared.Answer.{Answer}
-use Rattle.model.specs.declared.Answer.the-variants.{Done, Refused}
-use Rattle.model.proofs.CheckLaws.{andThen, first-append}
+use Rattle.model.specs.declared.Answer.the-variants.{Done}
 use Rattle.model.proofs.Steps.{passed}
 use Rattle.model.proofs.ControlPreservation.{part-kept}
 use Rattle.model.proofs.SettingPreservation.{part-after-setting}
@@ -22,65 +30,58 @@ use Rattle.tree.specs.Kept.{Kept}
 use Rattle.tree.specs.Calling.{Calling}
 use Rattle.tree.proofs.KeptLaws.{live-row}
 use Rattle.tree.proofs.CallLaws.{call-done, applied-wrote}
-use Rattle.text.specs.Value.{readingOf, told}
-use Rattle.text.specs.declared.value.Reading.{Reading}
 use Rattle.control.specs.Stores.{changedAt}
-use Rattle.control.specs.Values.{Settable, placeChecks, readingAnswer}
+use Rattle.control.specs.Values.{Settable, valueChecks, Gives}
+use Rattle.control.specs.declared.setting.Given.{Given}
+use Rattle.control.proofs.VetLaws.{Passed}
 use Rattle.control.proofs.WroteLaws.{wrote-as}
-use Rattle.control.proofs.ValueLaws.{valueChecks, value-answer, told-value}
 
 -- ---- a setting
 
--- The checks before the value, then those of the value.
-module _ (t : Tree) (user g : ℕ) (file line : List ℕ) where
-  setting-verdict : (a b : Answer) → a ≡ first (placeChecks t user g file line) → b ≡ first (valueChecks file line)
-      → verdict t (writeSetting user g file line) ≡ andThen a b
-  unfolding verdict checks placeChecks
-  setting-verdict a b p q = first-append (placeChecks t user g file line) (valueChecks file line) ∙ rw (← p, ← q)
+-- what a write is given, found another way
+gives-as : {a b : Answer} {o p : Option SettingValue} → a ≡ b → o ≡ p → (r : Given) → Gives a o r → Gives b p r
+gives-as e f (Given.Value v) g = (sym e ∙ g .0, sym f ∙ g .1)
+gives-as e f (Given.Refused x) g = sym e ∙ g
 
-  pub place-refused : (a : Answer) (e : Errno) → a ≡ first (placeChecks t user g file line) → a ≡ Refused e
-      → a ≡ verdict t (writeSetting user g file line)
-  place-refused a e p r = r ∙ sym (setting-verdict (Refused e) _ (sym r ∙ p) refl)
+-- the checks of the line are those that are left, once its setting is known
+pub gives-setting : (t : Tree) (user g : ℕ) (file line : List ℕ) (s : Setting) → settingNamed file ≡ some s
+    → let all = checks (factsOf t) (writeSetting user g file line) in Passed all (drop 5 all)
+    → (r : Given) → Gives (first (valueChecks s line)) (valueOf s (lineWords line)) r
+    → Gives (verdict t (writeSetting user g file line)) (lineValue file line) r
+unfolding verdict checks valueChecks
+gives-setting t user g file line s e p r h =
+    let n : settingValue (some s) line ≡ lineValue file line = ap (λ o. settingValue o line) (sym e) in
+    gives-as (ap (λ o. first (bar (tooLong line) Einval ∷ need (known o) Einval ∷ need (passes o inRange) Erange ∷ [])) n ∙ sym (p .same)) n r h
 
-  -- the value, where those before it pass
-  pub value-decides : (a b : Answer) (r : Reading) → a ≡ first (placeChecks t user g file line) → a ≡ Done → r ≡ readingOf (lineValue file line)
-      → b ≡ readingAnswer r → b ≡ verdict t (writeSetting user g file line)
-  value-decides a b r p d e f = sym (setting-verdict Done b (sym d ∙ p) (f ∙ value-answer file line r e))
-
-module _ (xs : List ℕ) (k : Kept xs) (user g : ℕ) (file line : List ℕ)
-    (v : verdict (view xs) (writeSetting user g file line) ≡ Done)
-    (value : Reading) (e : value ≡ readingOf (lineValue file line)) where
+module _ (xs : List ℕ) (k : Kept xs) (user g : ℕ) (file line : List ℕ) (value : SettingValue)
+    (given : Gives (verdict (view xs) (writeSetting user g file line)) (lineValue file line) (Given.Value value)) where
   setting-live : lives (view xs) g ≡ true
   unfolding checks Pass
-  setting-live = let c = passed (view xs) (writeSetting user g file line) v in (search)
+  setting-live = let c = passed (view xs) (writeSetting user g file line) (given .0) in (search)
 
-  setting-told : told value ≡ lineValue file line
+  setting-range : passes (lineValue file line) inRange ≡ true
   unfolding checks Pass
-  setting-told =
-      let c = passed (view xs) (writeSetting user g file line) v in
-      ap told e ∙ told-value (lineValue file line) (search)
+  setting-range = let c = passed (view xs) (writeSetting user g file line) (given .0) in (search)
 
   pub settable : Settable xs g value
-  unfolding checks Pass
   settable =
-      let c = passed (view xs) (writeSetting user g file line) v in
-      record { at = record { kept = k; live = setting-live }; within = rw setting-told (search) }
+      record { at = record { kept = k; live = setting-live }; within = ap (λ o. passes o inRange) (sym (given .1)) ∙ setting-range }
 
-  pub setting-done : (ys : List ℕ) → Wrote xs ys (changedAt (view xs) g (written (told value)))
+  pub setting-done : (ys : List ℕ) → Wrote xs ys (changedAt (view xs) g (written (some value)))
       → Calling xs ys (writeSetting user g file line) (verdict (view xs) (writeSetting user g file line)) Done
   unfolding effect
   setting-done ys w =
       let o = lineValue file line in
-      call-done xs k (writeSetting user g file line) v ys _ _
-      (applied-wrote xs k (writeSetting user g file line) v ys
-      (wrote-as (ap (λ x. changedAt (view xs) g (written x)) setting-told) w)
+      call-done xs k (writeSetting user g file line) (given .0) ys _ _
+      (applied-wrote xs k (writeSetting user g file line) (given .0) ys
+      (wrote-as (ap (λ x. changedAt (view xs) g (written x)) (sym (given .1))) w)
       (record {
         parent = part-after-setting (view xs) g o (λ x. x .core .parent) (λ _ _. refl);
         live = part-after-setting (view xs) g o (λ x. x .core .live) (λ _ _. refl);
         own = part-after-setting (view xs) g o (λ x. x .core .own) (λ _ _. refl);
       })
       refl)
-      (sym v)
+      (sym (given .0))
 
 -- ---- a control line
 

@@ -1,43 +1,34 @@
--- When the value that a reading tells can be stored, and the checks of a value. Assumes nothing.
+-- The checks of a value, what a write is given by them, and when a value can be stored. Assumes nothing.
 use Prim.Native.Nat.{ℕ}
 use mathlib.Core.Bool.{true}
 use mathlib.Core.List.{List, [], _∷_}
+use mathlib.Core.Option.{Option, some}
 use mathlib.Core.Path.{_≡_}
 use Rattle.model.specs.Functions.{known, passes}
 use Rattle.model.specs.Checks.{Check, bar, need}
-use Rattle.model.specs.Names.{settingNamed}
-use Rattle.model.specs.Tree.{Tree, lives, parents}
-use Rattle.model.specs.Hierarchy.{on}
-use Rattle.model.specs.Text.{tooLong}
-use Rattle.model.specs.Rules.{noGroupNumber, mayWrite}
-use Rattle.model.specs.Settings.{settingController, inRange}
-use Rattle.model.specs.declared.Errno.the-variants.{Enoent, Eacces, Einval, Erange}
+use Rattle.model.specs.Text.{tooLong, lineWords}
+use Rattle.model.specs.Settings.{valueOf, inRange}
+use Rattle.model.specs.declared.Setting.{Setting}
+use Rattle.model.specs.declared.SettingValue.{SettingValue}
+use Rattle.model.specs.declared.Errno.the-variants.{Einval, Erange}
 use Rattle.model.specs.declared.Answer.{Answer}
 use Rattle.tree.specs.Kept.{KeptAt}
-use Rattle.text.specs.Value.{told}
-use Rattle.text.specs.declared.value.Reading.{Reading}
+use Rattle.control.specs.declared.setting.Given.{Given}
 
--- a live group, and a value in its range
-pub record Settable (xs : List ℕ) (g : ℕ) (value : Reading) : Type 0 where
-  pub at : KeptAt xs g
-  pub within : passes (told value) inRange ≡ true
-
--- the checks before the value: group, setting, permission, length
-unfoldable pub placeChecks : Tree → ℕ → ℕ → List ℕ → List ℕ → List Check
-placeChecks t user g file line =
-    bar (noGroupNumber g) Einval
-    ∷ need (lives t g) Enoent
-    ∷ need (known (settingNamed file)) Enoent
-    ∷ need (passes (settingNamed file) (λ s. on t (settingController s) g)) Enoent
-    ∷ need (mayWrite t user (parents t g)) Eacces
-    ∷ bar (tooLong line) Einval
+-- the checks of a line, once its setting is known: "22 malformed (any word of it); 34 range"
+unfoldable pub valueChecks : Setting → List ℕ → List Check
+valueChecks s line =
+    bar (tooLong line) Einval
+    ∷ need (known (valueOf s (lineWords line))) Einval
+    ∷ need (passes (valueOf s (lineWords line)) inRange) Erange
     ∷ []
 
--- what a reading of a line that is short enough answers: "22 malformed (any word of it); 34 range"
-abbrev pub readingAnswer : Reading → Answer
-readingAnswer (Reading.Weight n) = Answer.Done
-readingAnswer (Reading.Quota q) = Answer.Done
-readingAnswer (Reading.Bandwidth q p) = Answer.Done
-readingAnswer (Reading.Max r l) = Answer.Done
-readingAnswer Reading.Malformed = Answer.Refused Einval
-readingAnswer Reading.OutOfRange = Answer.Refused Erange
+-- after success the value of the line, else the refusal
+abbrev pub Gives : Answer → Option SettingValue → Given → Type 0
+Gives answer value (Given.Value v) = (answer ≡ Answer.Done) × (value ≡ some v)
+Gives answer value (Given.Refused e) = answer ≡ Answer.Refused e
+
+-- a live group, and a value in its range
+pub record Settable (xs : List ℕ) (g : ℕ) (value : SettingValue) : Type 0 where
+  pub at : KeptAt xs g
+  pub within : inRange value ≡ true

@@ -5,7 +5,6 @@ use native.Mathlib.Omega.{arith}
 use mathlib.Core.Bool.{true}
 use mathlib.Core.List.{List, [], _∷_, _++_, append-nil, append-assoc}
 use mathlib.Core.Logic.{_≢_}
-use mathlib.Core.Option.{some}
 use mathlib.Core.Path.{_≡_, ap, sym, _∙_}
 use lib.ListN.{length, length-append}
 use borrow.Author.Tests.{eq-eqb, ne-eqb}
@@ -14,17 +13,17 @@ use Rattle.model.specs.Sizes.{largestMachine, longestLine}
 use Rattle.model.specs.Tree.{Settings, settingsAt}
 use Rattle.model.specs.Hierarchy.{factsOf}
 use Rattle.model.specs.Text.{bytes, newline, space, ended, joined, decimal}
-use Rattle.model.specs.Settings.{SettingValue, weight, bandwidth, maximum, largest, figureIn, inRange, toFigure, mapLimit, shown, limitText, valueText, Allowed}
+use Rattle.model.specs.Settings.{largest, figureIn, inRange, toFigure, mapLimit, shown, limitText, valueText, Allowed}
 use Rattle.model.specs.Files.{contents}
 use Rattle.model.specs.declared.Resource.{Resource}
 use Rattle.model.specs.declared.Resource.the-variants.{Pages, Processes}
 use Rattle.model.specs.declared.Limit.{Limit}
-use Rattle.model.specs.declared.Limit.the-variants.{Figure}
 use Rattle.model.specs.declared.Setting.{Setting}
 use Rattle.model.specs.declared.Setting.the-variants.{CpuWeight, CpuMax, Max}
+use Rattle.model.specs.declared.SettingValue.{SettingValue}
+use Rattle.model.specs.declared.SettingValue.the-variants.{Weight, Bandwidth, Maximum}
 use Rattle.model.specs.declared.File.the-variants.{Events, Current, Value}
 use Rattle.model.proofs.DecimalLaws.{length-decimal}
-use Rattle.model.proofs.FigureLaws.{between-le}
 use Rattle.model.proofs.SettingTextLaws.{shown-short}
 use Rattle.tree.specs.Layout.{view, sumIn}
 use Rattle.tree.specs.declared.sum.Counter.the-variants.{Of}
@@ -48,15 +47,6 @@ length-one v h = rw (← one-line v) (omega (arith, length-ended (valueText v)))
 figure-small : (r : Resource) (n : ℕ) → n ≤ largestMachine → toFigure r n < 10 ^ 16
 figure-small Pages n h = omega arith
 figure-small Processes n h = omega arith
-
--- a limit in its range is a figure that fits
-pub figure-in-range : (r : Resource) (l : Limit) (n : ℕ) → l ≡ Figure n
-    → figureIn 0 (largest r) (mapLimit (toFigure r) l) ≡ true → toFigure r n < 10 ^ 16
-figure-in-range r l n e h = go r (rw e at h)
-  where
-    go : (r : Resource) → figureIn 0 (largest r) (Figure (toFigure r n)) ≡ true → toFigure r n < 10 ^ 16
-    go Pages h = omega (arith, between-le 0 (largest Pages) (toFigure Pages n) h)
-    go Processes h = omega (arith, between-le 0 (largest Processes) (toFigure Processes n) h)
 
 module _ (xs : List ℕ) (g : ℕ) (k : KeptAt xs g) where
   -- ---- counts
@@ -106,28 +96,28 @@ module _ (xs : List ℕ) (g : ℕ) (k : KeptAt xs g) where
   pub weight-text : (n : ℕ) → n ≡ view xs .group g .cpu .weight
       → ended (decimal n) ≡ contents (factsOf (view xs)) g (Value CpuWeight)
   unfolding contents shown valueText
-  weight-text n e = ap (λ (m : ℕ). ended (decimal m)) e ∙ one-line (weight (view xs .group g .cpu .weight))
+  weight-text n e = ap (λ (m : ℕ). ended (decimal m)) e ∙ one-line (Weight (view xs .group g .cpu .weight))
 
   pub length-weight : (n : ℕ) → n ≡ view xs .group g .cpu .weight → length (decimal n) + 1 ≤ longestLine
   length-weight n e = omega (arith, length-ended (decimal n), ap length (weight-text n e), length-setting CpuWeight)
 
   pub bandwidth-text : (q : Limit) (n : ℕ) → q ≡ view xs .group g .cpu .quota → n ≡ view xs .group g .cpu .period
-      → ended (valueText (bandwidth q (some n))) ≡ contents (factsOf (view xs)) g (Value CpuMax)
+      → ended (valueText (Bandwidth q n)) ≡ contents (factsOf (view xs)) g (Value CpuMax)
   unfolding contents shown
-  bandwidth-text q n e f = rw (e, f) (one-line (bandwidth (view xs .group g .cpu .quota) (some (view xs .group g .cpu .period))))
+  bandwidth-text q n e f = rw (e, f) (one-line (Bandwidth (view xs .group g .cpu .quota) (view xs .group g .cpu .period)))
 
   pub limit-text : (r : Resource) (l m : Limit) → l ≡ view xs .group g .core .limit r → m ≡ mapLimit (toFigure r) l
       → ended (limitText m) ≡ contents (factsOf (view xs)) g (Value (Max r))
   unfolding contents shown valueText
   limit-text r l m e f =
       ap (λ (x : Limit). ended (limitText x)) (f ∙ ap (mapLimit (toFigure r)) e)
-      ∙ one-line (maximum r (mapLimit (toFigure r) (view xs .group g .core .limit r)))
+      ∙ one-line (Maximum r (mapLimit (toFigure r) (view xs .group g .core .limit r)))
 
 pub bandwidth-words : (q : Limit) (n : ℕ)
-    → limitText q ++ ((space ∷ []) ++ ended (decimal n)) ≡ ended (valueText (bandwidth q (some n)))
+    → limitText q ++ ((space ∷ []) ++ ended (decimal n)) ≡ ended (valueText (Bandwidth q n))
 unfolding valueText
 bandwidth-words q n = sym (append-assoc (limitText q) (space ∷ decimal n) (newline ∷ []))
 
 pub length-bandwidth : (q : Limit) (n : ℕ)
-    → length (ended (valueText (bandwidth q (some n)))) ≡ length (limitText q) + (2 + length (decimal n))
+    → length (ended (valueText (Bandwidth q n))) ≡ length (limitText q) + (2 + length (decimal n))
 length-bandwidth q n = rw (← bandwidth-words q n) (simp length-append (omega arith))

@@ -1,15 +1,13 @@
 // The files that are one value: whether a group is populated, the counts, and the settings. No pass over the tree: the
 // counts are its running sums.
-ghost use mathlib.Core.Bool.{true};
-ghost use mathlib.Core.Option.{some};
-ghost use mathlib.Core.Path.{_≡_};
-ghost use Prim.Native.Nat.{_^_, _<_, _≤_};
+ghost use Prim.Native.Nat.{_≤_};
 ghost use lib.ListN.{length};
 ghost use Rattle.model.specs.Hierarchy.{factsOf};
 ghost use Rattle.model.specs.Text.{ended};
-ghost use Rattle.model.specs.Settings.{bandwidth, toFigure, mapLimit, figureIn, largest, limitText, valueText};
+ghost use Rattle.model.specs.Settings.{limitText, valueText};
 ghost use Rattle.model.specs.Files.{contents};
 ghost use Rattle.model.specs.declared.File.{File};
+ghost use Rattle.model.specs.declared.SettingValue.{SettingValue};
 ghost use Rattle.text.specs.Write.{Wrote};
 ghost use Rattle.tree.specs.Layout.{view};
 ghost use Rattle.files.specs.Reading.{Ready};
@@ -18,7 +16,8 @@ use model::GroupId;
 use model::Limit;
 use model::Resource;
 use model::Setting;
-use text::value::PAGE_BYTES;
+use text::amount::shown_limit;
+use text::amount::to_figure;
 use text::write::put_byte;
 use text::write::put_limit;
 use text::write::put_text;
@@ -29,28 +28,6 @@ use tree::setting::quota;
 use tree::setting::weight;
 use tree::sum::Counter;
 use tree::sum::sum;
-
-// An amount of a resource, as its files show it.
-fn to_figure(r: Resource, n: u64) -> u64
-    requires { ⌜ toFigure r n < 2 ^ 64 ⌝ }
-    ensures { λ k. ⌜ k ≡ toFigure r n ⌝ }
-{
-    match r {
-        Resource::Pages => n * PAGE_BYTES,
-        Resource::Processes => n,
-    }
-}
-
-// A limit of a resource, as its file shows it.
-fn shown_limit(r: Resource, l: Limit) -> Limit
-    requires { ⌜ figureIn 0 (largest r) (mapLimit (toFigure r) l) ≡ true ⌝ }
-    ensures { λ k. ⌜ k ≡ mapLimit (toFigure r) l ⌝ }
-{
-    let Limit::Figure(n) = l else {
-        return Limit::NoLimit;
-    };
-    Limit::Figure(to_figure(r, n))
-}
 
 // Whether a live process is inside the group.
 pub fn put_events(t: &Tree, g: GroupId, out: &mut [u8]) -> usize
@@ -74,8 +51,8 @@ pub fn put_current(t: &Tree, g: GroupId, s: Resource, out: &mut [u8]) -> usize
 
 // Both words of cpu.max, one space between.
 fn put_bandwidth(out: &mut [u8], quota: Limit, period: u64) -> usize
-    requires { ⌜ length (ended (valueText (bandwidth quota (some period)))) ≤ length (now out) ⌝ }
-    ensures { λ r. ⌜ Wrote (now (out .entry)) 0 (ended (valueText (bandwidth quota (some period)))) (now (out .exit)) r ⌝ }
+    requires { ⌜ length (ended (valueText (SettingValue.Bandwidth quota period))) ≤ length (now out) ⌝ }
+    ensures { λ r. ⌜ Wrote (now (out .entry)) 0 (ended (valueText (SettingValue.Bandwidth quota period))) (now (out .exit)) r ⌝ }
 {
     let word = put_limit(out, 0, quota);
     let space = put_byte(out, word, b' ');

@@ -4,13 +4,12 @@ use Prim.Native.Nat.{ℕ, _≤_}
 use native.Mathlib.Omega.{arith}
 use mathlib.Core.Bool.{Bool, true}
 use mathlib.Core.List.{[], _∷_}
-use mathlib.Core.Option.{none, some}
 use mathlib.Core.Path.{_≡_, refl, ap}
 use borrow.Author.Tests.{le-leb}
 use Rattle.model.specs.Functions.{All}
 use Rattle.model.specs.Tree.{CpuSettings, Settings, newSettings}
 use Rattle.model.specs.Figures.{figureIn}
-use Rattle.model.specs.Settings.{settingController, SettingValue, weight, bandwidth, maximum, largest, inRange, toAmount, toFigure, mapLimit, put, shown, part, reset, Allowed}
+use Rattle.model.specs.Settings.{settingController, largest, inRange, toAmount, toFigure, mapLimit, put, shown, part, reset, Allowed}
 use Rattle.model.specs.declared.Resource.{Resource}
 use Rattle.model.specs.declared.Resource.the-variants.{Pages, Processes}
 use Rattle.model.specs.declared.Limit.{Limit}
@@ -18,9 +17,11 @@ use Rattle.model.specs.declared.Limit.the-variants.{NoLimit, Figure}
 use Rattle.model.specs.declared.Controller.{Controller}
 use Rattle.model.specs.declared.Setting.{Setting}
 use Rattle.model.specs.declared.Setting.the-variants.{CpuWeight, CpuMax, Max}
+use Rattle.model.specs.declared.SettingValue.{SettingValue}
+use Rattle.model.specs.declared.SettingValue.the-variants.{Weight, Quota, Bandwidth, Maximum}
 use Rattle.model.proofs.FunctionLaws.{split}
 use Rattle.model.proofs.FigureLaws.{between-le}
-use Rattle.model.proofs.SettingLaws.{withLimit-all, range-of-quota, range-of-period}
+use Rattle.model.proofs.SettingLaws.{withLimit-all, range-of-period}
 use Rattle.model.proofs.PartLaws.{part-reset, part-kept}
 
 -- What is allowed, after a change.
@@ -39,10 +40,10 @@ allowed-new = record { values = values }
 -- what a setting shows is its controller's part alone
 shown-of-part : (s : Setting) (st su : Settings) → part (settingController s) st ≡ part (settingController s) su → shown s st ≡ shown s su
 unfolding shown
-shown-of-part CpuWeight st su e = ap (λ (x : CpuSettings). weight (x .weight) ∷ []) e
-shown-of-part CpuMax st su e = ap (λ (x : CpuSettings). bandwidth (x .quota) (some (x .period)) ∷ []) e
-shown-of-part (Max Pages) st su e = ap (λ (l : Limit). maximum Pages (mapLimit (toFigure Pages) l) ∷ []) e
-shown-of-part (Max Processes) st su e = ap (λ (l : Limit). maximum Processes (mapLimit (toFigure Processes) l) ∷ []) e
+shown-of-part CpuWeight st su e = ap (λ (x : CpuSettings). Weight (x .weight) ∷ []) e
+shown-of-part CpuMax st su e = ap (λ (x : CpuSettings). Bandwidth (x .quota) (x .period) ∷ []) e
+shown-of-part (Max Pages) st su e = ap (λ (l : Limit). Maximum Pages (mapLimit (toFigure Pages) l) ∷ []) e
+shown-of-part (Max Processes) st su e = ap (λ (l : Limit). Maximum Processes (mapLimit (toFigure Processes) l) ∷ []) e
 
 pub allowed-after-reset : (gone : Controller → Bool) (st : Settings) → Allowed st → Allowed (reset gone st)
 allowed-after-reset gone st h =
@@ -68,19 +69,19 @@ figureIn-rounded r (Figure n) e =
 
 values-after-put : (v : SettingValue) (st : Settings) → InRange v → Allowed st → (s : Setting) → All InRange (shown s (put v st))
 unfolding inRange shown put All
-values-after-put (weight n) st e h CpuWeight = (e, tt)
-values-after-put (weight n) st e h CpuMax = h .values CpuMax
-values-after-put (weight n) st e h (Max r) = h .values (Max r)
-values-after-put (bandwidth q none) st e h CpuWeight = h .values CpuWeight
-values-after-put (bandwidth q none) st e h CpuMax =
-    (rw (range-of-quota q none e) (range-of-period (st .cpu .quota) (some (st .cpu .period)) (h .values CpuMax .0)), tt)
-values-after-put (bandwidth q none) st e h (Max r) = h .values (Max r)
-values-after-put (bandwidth q (some p)) st e h CpuWeight = h .values CpuWeight
-values-after-put (bandwidth q (some p)) st e h CpuMax = (e, tt)
-values-after-put (bandwidth q (some p)) st e h (Max r) = h .values (Max r)
-values-after-put (maximum r l) st e h CpuWeight = h .values CpuWeight
-values-after-put (maximum r l) st e h CpuMax = h .values CpuMax
-values-after-put (maximum r l) st e h (Max x) = (
+values-after-put (Weight n) st e h CpuWeight = (e, tt)
+values-after-put (Weight n) st e h CpuMax = h .values CpuMax
+values-after-put (Weight n) st e h (Max r) = h .values (Max r)
+values-after-put (Quota q) st e h CpuWeight = h .values CpuWeight
+values-after-put (Quota q) st e h CpuMax =
+    (rw e (range-of-period (st .cpu .quota) (st .cpu .period) (h .values CpuMax .0)), tt)
+values-after-put (Quota q) st e h (Max r) = h .values (Max r)
+values-after-put (Bandwidth q p) st e h CpuWeight = h .values CpuWeight
+values-after-put (Bandwidth q p) st e h CpuMax = (e, tt)
+values-after-put (Bandwidth q p) st e h (Max r) = h .values (Max r)
+values-after-put (Maximum r l) st e h CpuWeight = h .values CpuWeight
+values-after-put (Maximum r l) st e h CpuMax = h .values CpuMax
+values-after-put (Maximum r l) st e h (Max x) = (
   withLimit-all (λ y m. figureIn 0 (largest y) (mapLimit (toFigure y) m) ≡ true) r _ (st .limit)
       (figureIn-rounded r l e) (λ y. h .values (Max y) .0) x,
   tt,

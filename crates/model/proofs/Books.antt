@@ -7,24 +7,26 @@ use mathlib.Core.List.{List, [], _∷_, _++_}
 use mathlib.Core.Logic.{_⊎_, inl, inr}
 use mathlib.Core.Option.{Option, none, some}
 use mathlib.Core.Path.{_≡_, refl, ap, ap₂, sym, _∙_, fun-ext, subst}
-use Rattle.model.specs.Functions.{pick}
+use Rattle.model.specs.Functions.{upd, pick}
 use Rattle.model.specs.Checks.{errnoNumber, answerNumber, first, Check}
-use Rattle.model.specs.Tree.{Tree, Core, Settings, settingsOf, controllerOf, withLimits, noGroup, atGroup, cores, parents, sets, settingsAt, places}
+use Rattle.model.specs.Tree.{Tree, Core, Settings, settingsOf, controllerOf, withLimits, withSettings, noGroup, atGroup, cores, parents, sets, settingsAt, places}
 use Rattle.model.specs.Hierarchy.{childOf, usage, factsOf}
 use Rattle.model.specs.Control.{asked, isDropped}
-use Rattle.model.specs.Settings.{SettingValue, weight, bandwidth, maximum, put, reset}
+use Rattle.model.specs.Settings.{put, reset}
 use Rattle.model.specs.Rooms.{Room, room, full, roomFor, isFull, shortage}
 use Rattle.model.specs.Rules.{processGroup, lineProcess, leaving}
 use Rattle.model.specs.Calls.{Call, lineValue, chargeChecks, forkChecks, checks, verdict}
 use Rattle.model.specs.Effects.{newSet, controlled, written, effect, step, fresh, run}
 use Rattle.model.specs.Replies.{roomAnswer, chargeAnswer, forkAnswer, roomNumber, readAnswer, readNumber, Asks, forCharge, forFork, askedAnswer, Sort, plain, asking, delivering, sortOf, sortReply, reply, replyBy}
-use Rattle.model.specs.Book.{Book, limitsAfter, childAfter, enterValue, enter, bookStep, freshBook, bookOf, fed}
+use Rattle.model.specs.Book.{Book, limitEntered, entryOf, enterEntry, limitsAfter, childAfter, enterValue, enter, bookStep, freshBook, bookOf, fed}
 use Rattle.model.specs.WellFormed.{WellFormed}
 use Rattle.model.specs.Lists.{log, bookAfter}
 use Rattle.model.specs.declared.Resource.{Resource}
 use Rattle.model.specs.declared.Resource.the-variants.{Pages, Processes}
 use Rattle.model.specs.declared.Limit.{Limit}
 use Rattle.model.specs.declared.Limit.the-variants.{NoLimit}
+use Rattle.model.specs.declared.SettingValue.{SettingValue}
+use Rattle.model.specs.declared.SettingValue.the-variants.{Weight, Quota, Bandwidth, Maximum}
 use Rattle.model.specs.declared.Errno.{Errno}
 use Rattle.model.specs.declared.Errno.the-variants.{Enoent, Esrch, Eagain, Enomem, Eacces, Ebusy, Eexist, Einval, Enospc, Erange}
 use Rattle.model.specs.declared.Answer.{Answer}
@@ -133,14 +135,36 @@ module _ (t : Tree) (w : WellFormed t) (g : ℕ) (line : List ℕ) where
       (λ n. core-of-other k n ∙ entry-of-other k n)
 
 -- A setting: only the two limits are kept in the book.
+abbrev entered : Option (Resource × Limit) → (Resource → Limit) → Resource → Limit
+entered none f = f
+entered (some e) f = limitEntered (e .0) (e .1) f
+
+limits-after-put : (v : SettingValue) (st : Settings) → put v st .limit ≡ entered (entryOf v) (st .limit)
+unfolding put
+limits-after-put (Weight n) st = refl
+limits-after-put (Quota q) st = refl
+limits-after-put (Bandwidth q p) st = refl
+limits-after-put (Maximum r l) st = refl
+
 module _ (t : Tree) (mark : ℕ → ℕ) (g : ℕ) where
+  same-after-entry : (st : Settings) (o : Option (Resource × Limit)) → st .limit ≡ entered o (cores t g .limit)
+      → Same (atGroup t g (withSettings st (t .group g))) (enterEntry (bookWith t mark) g o)
+  same-after-entry st none e =
+      record {
+        machine = refl;
+        groups = fun-ext (upd-keeps (λ x. x .core) (t .group) g _ (ap (λ l. withLimits l (cores t g)) e));
+        places = refl;
+      }
+  same-after-entry st (some x) e =
+      record {
+        machine = refl;
+        groups = upd-map (λ x. x .core) (t .group) g _ ∙ ap (λ l. upd (cores t) g (withLimits l (cores t g))) e;
+        places = refl;
+      }
+
   same-after-value : (v : Option SettingValue) → Same (atGroup t g (written v (t .group g))) (enterValue (bookWith t mark) g v)
-  unfolding put
   same-after-value none = record { machine = refl; groups = fun-ext (upd-keeps (λ x. x .core) (t .group) g _ refl); places = refl }
-  same-after-value (some (weight n)) = record { machine = refl; groups = fun-ext (upd-keeps (λ x. x .core) (t .group) g _ refl); places = refl }
-  same-after-value (some (bandwidth q none)) = record { machine = refl; groups = fun-ext (upd-keeps (λ x. x .core) (t .group) g _ refl); places = refl }
-  same-after-value (some (bandwidth q (some p))) = record { machine = refl; groups = fun-ext (upd-keeps (λ x. x .core) (t .group) g _ refl); places = refl }
-  same-after-value (some (maximum r l)) = record { machine = refl; groups = upd-map (λ x. x .core) (t .group) g _; places = refl }
+  same-after-value (some v) = same-after-entry (put v (settingsAt t g)) (entryOf v) (limits-after-put v (settingsAt t g))
 
 -- An accepted call: both keep the same afterwards, whatever the marks are, and the marks stay unless a setting is written.
 pub record Booked (t : Tree) (c : Call) : Type 0 where

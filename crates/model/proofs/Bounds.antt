@@ -13,18 +13,18 @@ use Rattle.model.specs.Checks.{Pass}
 use Rattle.model.specs.Tree.{groupOf, Tree, Core, Group, at, nowhere, controllerOf, noGroup, newGroup, withLimits, withLimit, atGroup, cores, lives, parents, depths, places}
 use Rattle.model.specs.Hierarchy.{inside, ownPages, usage, population, amount, childOf, factsOf}
 use Rattle.model.specs.Control.{asked, isDropped}
-use Rattle.model.specs.Settings.{SettingValue, weight, bandwidth, maximum}
 use Rattle.model.specs.Rooms.{over, actingLimit}
 use Rattle.model.specs.Rules.{processGroup, leaving}
 use Rattle.model.specs.Calls.{Call, lineValue, chargeChecks, forkChecks, checks}
 use Rattle.model.specs.Effects.{charged, removed, newSet, controlled, effect}
-use Rattle.model.specs.Book.{childAfter, enterValue, enter}
+use Rattle.model.specs.Book.{enterLimit, entryOf, enterEntry, childAfter, enterValue, enter}
 use Rattle.model.specs.WellFormed.{WellFormed}
 use Rattle.model.specs.Demands.{Adds, byCharge, byFork, byAdmit}
 use Rattle.model.specs.declared.Resource.{Resource}
 use Rattle.model.specs.declared.Resource.the-variants.{Pages, Processes}
 use Rattle.model.specs.declared.Limit.{Limit}
 use Rattle.model.specs.declared.Limit.the-variants.{NoLimit, Figure}
+use Rattle.model.specs.declared.SettingValue.{SettingValue}
 use Rattle.model.proofs.FunctionLaws.{split, whether, upd-same, upd-other, upd-map, upd-keeps, upd-all, weigh-yes, weigh-no}
 use Rattle.model.proofs.ChainLaws.{inside-live, inside-root}
 use Rattle.model.proofs.AmountLaws.{place-live, place-free, usage-same, usage-after-charge, population-after-birth, amount-after-make, amount-after-remove}
@@ -200,15 +200,22 @@ module _ (t : Tree) (w : WellFormed t) where
       ⊎-elim (λ (x : usage (cores u) a ≤ usage (cores t) a). omega arith) (λ (x : usage (cores u) a ≤ l). omega arith) (k .bound a l e)
 
 module _ (t : Tree) (mark : ℕ → ℕ) (w : WellFormed t) (q : Marked (cores t) mark) where
-  marked-value : (g : ℕ) (v : Option SettingValue) → Marked (enterValue (bookWith t mark) g v .group) (enterValue (bookWith t mark) g v .mark)
-  marked-value g none = q
-  marked-value g (some (weight n)) = q
-  marked-value g (some (bandwidth x p)) = q
-  marked-value g (some (maximum Pages l)) = marked-write (cores t) mark g _ _ (omega arith) q
-  marked-value g (some (maximum Processes l)) =
+  marked-limit : (g : ℕ) (r : Resource) (l : Limit)
+      → Marked (enterLimit (bookWith t mark) g r l .group) (enterLimit (bookWith t mark) g r l .mark)
+  marked-limit g Pages l = marked-write (cores t) mark g _ _ (omega arith) q
+  marked-limit g Processes l =
       marked-frame (cores t) _ mark q
       (upd-keeps (λ c. c .live) (cores t) g _ refl) (upd-keeps (λ c. c .parent) (cores t) g _ refl) (upd-keeps (λ c. c .own) (cores t) g _ refl)
       (λ a. inr (upd-keeps (λ c. c .limit Pages) (cores t) g _ refl a))
+
+  marked-entry : (g : ℕ) (o : Option (Resource × Limit))
+      → Marked (enterEntry (bookWith t mark) g o .group) (enterEntry (bookWith t mark) g o .mark)
+  marked-entry g none = q
+  marked-entry g (some e) = marked-limit g (e .0) (e .1)
+
+  marked-value : (g : ℕ) (v : Option SettingValue) → Marked (enterValue (bookWith t mark) g v .group) (enterValue (bookWith t mark) g v .mark)
+  marked-value g none = q
+  marked-value g (some v) = marked-entry g (entryOf v)
 
   marked-setting : (c : Call) → WritesSetting c → Marked (enter (bookWith t mark) c .group) (enter (bookWith t mark) c .mark)
   unfolding enter

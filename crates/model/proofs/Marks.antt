@@ -13,19 +13,21 @@ use Rattle.model.specs.Tree.{Tree, Core, cores, places}
 use Rattle.model.specs.Hierarchy.{usage}
 use Rattle.model.specs.Text.{bytes, lineWords}
 use Rattle.model.specs.Names.{settings, settingName, settingNamed}
-use Rattle.model.specs.Settings.{SettingValue, weight, bandwidth, maximum}
 use Rattle.model.specs.Calls.{Call, settingValue, lineValue, checks, verdict}
 use Rattle.model.specs.Effects.{effect, step}
 use Rattle.model.specs.Replies.{reply}
-use Rattle.model.specs.Book.{Book, enterValue, enter, bookStep, bookOf, fed}
+use Rattle.model.specs.Book.{Book, enterLimit, entryOf, enterEntry, enterValue, enter, bookStep, bookOf, fed}
 use Rattle.model.specs.WellFormed.{WellFormed}
 use Rattle.model.specs.Lists.{log, bookAfter, Each, Never, Last}
 use Rattle.model.specs.Marks.{SetsMemoryMax, AtLastWrite, AtStart, MarkIs}
+use Rattle.model.specs.declared.Resource.{Resource}
 use Rattle.model.specs.declared.Resource.the-variants.{Pages, Processes}
 use Rattle.model.specs.declared.Limit.{Limit}
 use Rattle.model.specs.declared.Limit.the-variants.{Figure}
 use Rattle.model.specs.declared.Setting.{Setting}
 use Rattle.model.specs.declared.Setting.the-variants.{Max}
+use Rattle.model.specs.declared.SettingValue.{SettingValue}
+use Rattle.model.specs.declared.SettingValue.the-variants.{Weight, Quota, Bandwidth, Maximum}
 use Rattle.model.specs.declared.Errno.{Errno}
 use Rattle.model.specs.declared.Answer.the-variants.{Done, Refused}
 use Rattle.model.proofs.FunctionLaws.{whether, clash, upd-same, upd-other, upd-keeps}
@@ -54,17 +56,24 @@ Kept s s′ g = (l : ℕ) → s′ g .limit Pages ≡ Figure l → s g .limit Pa
 kept-left : (s : ℕ → Core) (i : ℕ) (v : Core) → v .limit Pages ≡ s i .limit Pages → (g : ℕ) → Kept s (upd s i v) g
 kept-left s i v e g l h = sym (upd-keeps (λ c. c .limit Pages) s i v e g) ∙ h
 
+-- the limit of the resource is entered
+abbrev Enters : Resource → Option (Resource × Limit) → Type 0
+Enters r none = ⊥
+Enters r (some e) = e .0 ≡ r
+
 module _ (b : Book) (g : ℕ) where
-  -- a value written to h
-  value-left : (h : ℕ) (v : Option SettingValue) → ((l : Limit) → v ≡ some (maximum Pages l) → h ≡ g → ⊥)
-      → (enterValue b h v .mark g ≡ b .mark g) × Kept (b .group) (enterValue b h v .group) g
-  value-left h none n = (refl, λ l e. e)
-  value-left h (some (weight x)) n = (refl, λ l e. e)
-  value-left h (some (bandwidth q p)) n = (refl, λ l e. e)
-  value-left h (some (maximum Pages x)) n =
-      let ne : g ≢ h = (λ e. n x refl (sym e)) in
+  -- a limit entered at h
+  limit-left : (h : ℕ) (r : Resource) (x : Limit) → (r ≡ Pages → h ≡ g → ⊥)
+      → (enterLimit b h r x .mark g ≡ b .mark g) × Kept (b .group) (enterLimit b h r x .group) g
+  limit-left h Pages x n =
+      let ne : g ≢ h = (λ e. n refl (sym e)) in
       (upd-other (b .mark) h _ g ne, λ l e. ap (λ c. c .limit Pages) (sym (upd-other (b .group) h _ g ne)) ∙ e)
-  value-left h (some (maximum Processes x)) n = (refl, kept-left (b .group) h _ refl g)
+  limit-left h Processes x n = (refl, kept-left (b .group) h _ refl g)
+
+  entry-left : (h : ℕ) (o : Option (Resource × Limit)) → (Enters Pages o → h ≡ g → ⊥)
+      → (enterEntry b h o .mark g ≡ b .mark g) × Kept (b .group) (enterEntry b h o .group) g
+  entry-left h none n = (refl, λ l e. e)
+  entry-left h (some e) n = limit-left h (e .0) (e .1) n
 
 -- Names of two settings are not the same bytes.
 setting-of-name : (x y : Setting) → settingName x ≡ settingName y → x ≡ y
@@ -108,27 +117,26 @@ module _ (t : Tree) (b : Book) (s : State t b) (g : ℕ) where
     written = Call.writeSetting user h file line
 
     -- another setting, or another group
-    other-value : (v : SettingValue) → lineValue file line ≡ some v → (settingOf v ≡ Max Pages → h ≡ g → ⊥) → Decided written
+    other-value : (v : SettingValue) → lineValue file line ≡ some v → (Enters Pages (entryOf v) → h ≡ g → ⊥)
+        → (settingOf v ≡ Max Pages → h ≡ g → ⊥) → Decided written
     unfolding enter
-    other-value v p n =
+    other-value v p x n =
         let f : file ≡ settingName (settingOf v) = file-of-value file line v p in
-        let q = value-left b g h (lineValue file line) (λ l y. n (ap valueSetting (sym p ∙ y))) in
+        let q : (enter b written .mark g ≡ b .mark g) × Kept (b .group) (enter b written .group) g =
+        subst (λ (o : Option SettingValue). (enterValue b h o .mark g ≡ b .mark g) × Kept (b .group) (enterValue b h o .group) g) (sym p)
+        (entry-left b g h (entryOf v) x) in
         inr (accepted-other written e (λ w. n (setting-of-name (settingOf v) (Max Pages) (sym f ∙ file-of w)) (group-of w)) (q .0) (q .1))
       where
-        valueSetting : Option SettingValue → Setting
-        valueSetting none = Max Pages
-        valueSetting (some x) = settingOf x
-
         file-of : SetsMemoryMax g t written → file ≡ settingName (Max Pages)
         file-of w = cc
 
         group-of : SetsMemoryMax g t written → h ≡ g
         group-of w = cc
 
-    this-value : (l : Limit) → lineValue file line ≡ some (maximum Pages l) → h ≡ g → Decided written
+    this-value : (l : Limit) → lineValue file line ≡ some (Maximum Pages l) → h ≡ g → Decided written
     unfolding enter effect
     this-value l p d =
-        let f : file ≡ bytes "memory.max" = file-of-value file line (maximum Pages l) p in
+        let f : file ≡ bytes "memory.max" = file-of-value file line (Maximum Pages l) p in
         let m : enter b written .mark g ≡ usage (b .group) g =
         ap (λ v. enterValue b h v .mark g) p ∙ rw d (upd-same (b .mark) g (usage (b .group) g)) in
         let u : usage (cores (step t written)) g ≡ usage (cores t) g =
@@ -145,11 +153,14 @@ module _ (t : Tree) (b : Book) (s : State t b) (g : ℕ) where
 
     by-value : (v : Option SettingValue) → lineValue file line ≡ v → known v ≡ true → Decided written
     by-value none p k = clash false k refl
-    by-value (some (weight n)) p k = other-value (weight n) p (λ x. let z : _≡_ {A = ℕ} 0 1 = cc in absurd (omega arith))
-    by-value (some (bandwidth q o)) p k = other-value (bandwidth q o) p (λ x. let z : _≡_ {A = ℕ} 0 1 = cc in absurd (omega arith))
-    by-value (some (maximum Pages l)) p k =
-        whether h g (λ d. this-value l p d) (λ ne. other-value (maximum Pages l) p (λ _. ne))
-    by-value (some (maximum Processes l)) p k = other-value (maximum Processes l) p (λ x. let z : _≡_ {A = ℕ} 0 1 = cc in absurd (omega arith))
+    by-value (some (Weight n)) p k = other-value (Weight n) p (λ x. absurd x) (λ x. let z : _≡_ {A = ℕ} 0 1 = cc in absurd (omega arith))
+    by-value (some (Quota q)) p k = other-value (Quota q) p (λ x. absurd x) (λ x. let z : _≡_ {A = ℕ} 0 1 = cc in absurd (omega arith))
+    by-value (some (Bandwidth q o)) p k = other-value (Bandwidth q o) p (λ x. absurd x) (λ x. let z : _≡_ {A = ℕ} 0 1 = cc in absurd (omega arith))
+    by-value (some (Maximum Pages l)) p k =
+        whether h g (λ d. this-value l p d) (λ ne. other-value (Maximum Pages l) p (λ _. ne) (λ _. ne))
+    by-value (some (Maximum Processes l)) p k =
+        other-value (Maximum Processes l) p
+        (λ x. let z : _≡_ {A = ℕ} 0 1 = cc in absurd (omega arith)) (λ x. let z : _≡_ {A = ℕ} 0 1 = cc in absurd (omega arith))
 
   setting-decided : (c : Call) → verdict t c ≡ Done → WritesSetting c → Decided c
   unfolding checks Pass

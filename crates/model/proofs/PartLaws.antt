@@ -4,17 +4,19 @@ use Prim.Native.Nat.{ℕ}
 use mathlib.Core.Bool.{Bool, true, false}
 use mathlib.Core.List.{List}
 use mathlib.Core.Logic.{_≢_}
-use mathlib.Core.Option.{none, some}
+use mathlib.Core.Option.{some}
 use mathlib.Core.Path.{_≡_, refl, _∙_}
 use Rattle.model.specs.Functions.{pick}
 use Rattle.model.specs.Tree.{CpuSettings, Settings, newSettings, withCpu, withAmounts, withLimit, controllerOf}
-use Rattle.model.specs.Settings.{settingController, SettingValue, weight, bandwidth, maximum, valueOf, put, part, AtDefault, reset}
+use Rattle.model.specs.Settings.{settingController, valueOf, put, part, AtDefault, reset}
 use Rattle.model.specs.declared.Resource.{Resource}
 use Rattle.model.specs.declared.Resource.the-variants.{Pages, Processes}
 use Rattle.model.specs.declared.Limit.{Limit}
 use Rattle.model.specs.declared.Controller.{Controller}
 use Rattle.model.specs.declared.Controller.the-variants.{Cpu, Memory, Pids}
 use Rattle.model.specs.declared.Setting.{Setting}
+use Rattle.model.specs.declared.SettingValue.{SettingValue}
+use Rattle.model.specs.declared.SettingValue.the-variants.{Weight, Quota, Bandwidth, Maximum}
 use Rattle.model.proofs.FunctionLaws.{split}
 use Rattle.model.proofs.SettingLaws.{settingOf, settingOf-valueOf}
 
@@ -41,10 +43,10 @@ part-with-limit Processes l st Pids ne = absurd (ne refl)
 
 part-after-put-other : (v : SettingValue) (st : Settings) (c : Controller) → settingController (settingOf v) ≢ c → part c (put v st) ≡ part c st
 unfolding put
-part-after-put-other (weight n) st c ne = part-with-cpu _ st c ne
-part-after-put-other (bandwidth q none) st c ne = part-with-cpu _ st c ne
-part-after-put-other (bandwidth q (some p)) st c ne = part-with-cpu _ st c ne
-part-after-put-other (maximum r l) st c ne = part-with-limit r _ st c ne
+part-after-put-other (Weight n) st c ne = part-with-cpu _ st c ne
+part-after-put-other (Quota q) st c ne = part-with-cpu _ st c ne
+part-after-put-other (Bandwidth q p) st c ne = part-with-cpu _ st c ne
+part-after-put-other (Maximum r l) st c ne = part-with-limit r _ st c ne
 
 -- Defaults, for any controller.
 pub default-new : (c : Controller) → AtDefault c newSettings

@@ -8,26 +8,28 @@ use mathlib.Core.Option.{Option, none, some}
 use mathlib.Core.Path.{_≡_, refl, ap, fun-ext, subst}
 use Rattle.model.specs.Functions.{mapped, All}
 use Rattle.model.specs.Tree.{Settings, withAmounts, withLimit}
-use Rattle.model.specs.Text.{numberWord}
-use Rattle.model.specs.Figures.{limitWord, figureIn}
-use Rattle.model.specs.Settings.{SettingValue, weight, bandwidth, maximum, oneWord, bandwidthOf, bandwidthWords, valueOf, periodIn, inRange, toAmount, toFigure, mapLimit, put, shown}
+use Rattle.model.specs.Text.{oneWord, numberWord}
+use Rattle.model.specs.Figures.{limitWord}
+use Rattle.model.specs.Settings.{bandwidthOf, bandwidthWords, valueOf, between, quotaIn, inRange, toAmount, toFigure, mapLimit, put, shown}
 use Rattle.model.specs.declared.Resource.{Resource}
 use Rattle.model.specs.declared.Resource.the-variants.{Pages, Processes}
 use Rattle.model.specs.declared.Limit.{Limit}
 use Rattle.model.specs.declared.Limit.the-variants.{NoLimit, Figure}
 use Rattle.model.specs.declared.Setting.{Setting}
 use Rattle.model.specs.declared.Setting.the-variants.{CpuWeight, CpuMax, Max}
+use Rattle.model.specs.declared.SettingValue.{SettingValue}
+use Rattle.model.specs.declared.SettingValue.the-variants.{Weight, Quota, Bandwidth, Maximum}
 use Rattle.model.proofs.FunctionLaws.{and-left, and-right}
 
 -- Ranges.
-module _ (q : Limit) (p : Option ℕ) (e : inRange (bandwidth q p) ≡ true) where
-  pub range-of-quota : figureIn 1000 1000000000 q ≡ true
+module _ (q : Limit) (p : ℕ) (e : inRange (Bandwidth q p) ≡ true) where
+  pub range-of-quota : quotaIn q ≡ true
   unfolding inRange
-  range-of-quota = and-left (figureIn 1000 1000000000 q) (periodIn p) e
+  range-of-quota = and-left (quotaIn q) (between 1000 1000000 p) e
 
-  pub range-of-period : periodIn p ≡ true
+  pub range-of-period : between 1000 1000000 p ≡ true
   unfolding inRange
-  range-of-period = and-right (figureIn 1000 1000000000 q) (periodIn p) e
+  range-of-period = and-right (quotaIn q) (between 1000 1000000 p) e
 
 -- Shown and put back.
 -- what a file shows of an amount is rounded to that amount
@@ -62,9 +64,10 @@ put-shown (Max r) st = (
 
 -- Which setting a value is for.
 abbrev pub settingOf : SettingValue → Setting
-settingOf (weight n) = CpuWeight
-settingOf (bandwidth q p) = CpuMax
-settingOf (maximum r l) = Max r
+settingOf (Weight n) = CpuWeight
+settingOf (Quota q) = CpuMax
+settingOf (Bandwidth q p) = CpuMax
+settingOf (Maximum r l) = Max r
 
 abbrev IsFor : Setting → Option SettingValue → Type 0
 IsFor s none = Unit {0}
@@ -82,15 +85,15 @@ bandwidthOf-is-for (some q) (some p) = refl
 
 bandwidthWords-is-for : (ws : List (List ℕ)) → IsFor CpuMax (bandwidthWords ws)
 bandwidthWords-is-for [] = tt
-bandwidthWords-is-for (w ∷ []) = mapped-is-for CpuMax (λ q. bandwidth q none) (limitWord w) (λ q. refl)
+bandwidthWords-is-for (w ∷ []) = mapped-is-for CpuMax Quota (limitWord w) (λ q. refl)
 bandwidthWords-is-for (w ∷ v ∷ []) = bandwidthOf-is-for (limitWord w) (numberWord v)
 bandwidthWords-is-for (w ∷ v ∷ u ∷ us) = tt
 
 valueOf-is-for : (s : Setting) (ws : List (List ℕ)) → IsFor s (valueOf s ws)
 unfolding valueOf
-valueOf-is-for CpuWeight ws = mapped-is-for CpuWeight weight (oneWord numberWord ws) (λ n. refl)
+valueOf-is-for CpuWeight ws = mapped-is-for CpuWeight Weight (oneWord numberWord ws) (λ n. refl)
 valueOf-is-for CpuMax ws = bandwidthWords-is-for ws
-valueOf-is-for (Max r) ws = mapped-is-for (Max r) (maximum r) (oneWord limitWord ws) (λ l. refl)
+valueOf-is-for (Max r) ws = mapped-is-for (Max r) (Maximum r) (oneWord limitWord ws) (λ l. refl)
 
 pub settingOf-valueOf : (s : Setting) (ws : List (List ℕ)) (v : SettingValue) → valueOf s ws ≡ some v → settingOf v ≡ s
 settingOf-valueOf s ws v e = subst (IsFor s) e (valueOf-is-for s ws)

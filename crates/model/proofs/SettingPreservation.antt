@@ -5,9 +5,9 @@ use mathlib.Core.Path.{_≡_, refl}
 use Rattle.model.specs.Functions.{upd}
 use Rattle.model.specs.Tree.{Tree, Group, Settings, withSettings, cores, places}
 use Rattle.model.specs.Hierarchy.{ownPages, amount}
-use Rattle.model.specs.Settings.{SettingValue}
 use Rattle.model.specs.Effects.{written}
 use Rattle.model.specs.declared.Resource.{Resource}
+use Rattle.model.specs.declared.SettingValue.{SettingValue}
 use Rattle.model.proofs.FunctionLaws.{upd-keeps}
 use Rattle.model.proofs.AmountLaws.{amount-same}
 

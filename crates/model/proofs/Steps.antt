@@ -15,7 +15,7 @@ use Rattle.model.specs.Checks.{Pass}
 use Rattle.model.specs.Tree.{Tree, Core, Group, at, isLive, groupOf, noProcess, settingsOf, cores, lives, parents, depths, sets, settingsAt, places}
 use Rattle.model.specs.Hierarchy.{on, onIn, childOf, headcount, ownPages, usage, factsOf}
 use Rattle.model.specs.Control.{asked, isWanted, anyController}
-use Rattle.model.specs.Settings.{settingController, SettingValue, inRange, valueOf}
+use Rattle.model.specs.Settings.{settingController, inRange, valueOf}
 use Rattle.model.specs.Text.{lineWords}
 use Rattle.model.specs.Rooms.{over, actingLimit}
 use Rattle.model.specs.Names.{settingNamed}
@@ -26,6 +26,7 @@ use Rattle.model.specs.WellFormed.{WellFormed}
 use Rattle.model.specs.declared.Resource.the-variants.{Pages}
 use Rattle.model.specs.declared.Controller.{Controller}
 use Rattle.model.specs.declared.Setting.{Setting}
+use Rattle.model.specs.declared.SettingValue.{SettingValue}
 use Rattle.model.specs.declared.Errno.{Errno}
 use Rattle.model.specs.declared.Answer.{Answer}
 use Rattle.model.specs.declared.Answer.the-variants.{Done, Refused}

@@ -15,7 +15,7 @@ use Rattle.model.specs.Tree.{Tree, Group, Settings, lives, parents, sett
 use Rattle.model.specs.Hierarchy.{on, factsOf}
 use Rattle.model.specs.Text.{ended, joined, linesOf, body, words, lineWords, tooLong}
 use Rattle.model.specs.Names.{settingName, settingNamed}
-use Rattle.model.specs.Settings.{settingController, SettingValue, Allowed, inRange, put, shown, valueText}
+use Rattle.model.specs.Settings.{settingController, Allowed, inRange, put, shown, valueText}
 use Rattle.model.specs.Rules.{noGroupNumber, mayWrite}
 use Rattle.model.specs.Files.{contents}
 use Rattle.model.specs.Calls.{writeSetting, checks, lineValue, verdict}
@@ -24,6 +24,7 @@ use Rattle.model.specs.WellFormed.{WellFormed}
 use Rattle.model.specs.Demands.{shownBy, WrittenBack, WriteBack}
 use Rattle.model.specs.declared.Setting.{Setting}
 use Rattle.model.specs.declared.Setting.the-variants.{CpuWeight, CpuMax, Max}
+use Rattle.model.specs.declared.SettingValue.{SettingValue}
 use Rattle.model.specs.declared.File.the-variants.{Value}
 use Rattle.model.specs.declared.Answer.the-variants.{Done}
 use Rattle.model.proofs.FileReads.{file-read}

@@ -12,13 +12,15 @@ use Rattle.model.specs.Sizes.{largestMachine}
 use Rattle.model.specs.Tree.{Tree, Core, Place, nowhere, at, groupOf, controllerOf, cores, places}
 use Rattle.model.specs.Hierarchy.{usage, amount, childOf}
 use Rattle.model.specs.Control.{asked, isDropped}
-use Rattle.model.specs.Settings.{SettingValue, weight, bandwidth, maximum, mapLimit, toAmount}
+use Rattle.model.specs.Settings.{mapLimit, toAmount}
 use Rattle.model.specs.Rules.{lineProcess}
 use Rattle.model.specs.Calls.{Call, make, remove, handOver, writeProcs, writeControl, writeSetting, admit, fork, exit, charge, release, read, membership, lineValue}
 use Rattle.model.specs.declared.Resource.{Resource}
 use Rattle.model.specs.declared.Resource.the-variants.{Pages, Processes}
 use Rattle.model.specs.declared.Limit.{Limit}
 use Rattle.model.specs.declared.Limit.the-variants.{NoLimit}
+use Rattle.model.specs.declared.SettingValue.{SettingValue}
+use Rattle.model.specs.declared.SettingValue.the-variants.{Weight, Quota, Bandwidth, Maximum}
 
 -- "It keeps the live groups with parent, own pages, memory limit, pids limit and a mark, and where each live process stands."
 -- The mark, in document 01's word, is the usage when the memory limit was last written. It is read only beside a limit, so
@@ -83,11 +85,20 @@ enterLimit b g r l =
       place = b .place;
     }
 
+-- what the book enters of a value: no step for any setting but the two
+abbrev pub entryOf : SettingValue → Option (Resource × Limit)
+entryOf (Weight n) = none
+entryOf (Quota q) = none
+entryOf (Bandwidth q p) = none
+entryOf (Maximum r l) = some (r, mapLimit (toAmount r) l)
+
+abbrev pub enterEntry : Book → ℕ → Option (Resource × Limit) → Book
+enterEntry b g none = b
+enterEntry b g (some e) = enterLimit b g (e .0) (e .1)
+
 abbrev pub enterValue : Book → ℕ → Option SettingValue → Book
 enterValue b g none = b
-enterValue b g (some (weight n)) = b
-enterValue b g (some (bandwidth q p)) = b
-enterValue b g (some (maximum r l)) = enterLimit b g r (mapLimit (toAmount r) l)
+enterValue b g (some v) = enterEntry b g (entryOf v)
 
 -- "where the last word on memory is "-memory", G's children lose their memory limits; the same for pids"
 abbrev pub limitsAfter : List ℕ → (Resource → Limit) → Resource → Limit

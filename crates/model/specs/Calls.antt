@@ -14,13 +14,14 @@ use Rattle.model.specs.Hierarchy.{on, Facts, factsOf}
 use Rattle.model.specs.Text.{tooLong, lineWords}
 use Rattle.model.specs.Names.{settingNamed, fileNamed}
 use Rattle.model.specs.Control.{asked, isWanted, hasBadWord, anyController}
-use Rattle.model.specs.Settings.{settingController, SettingValue, valueOf, inRange}
+use Rattle.model.specs.Settings.{settingController, valueOf, inRange}
 use Rattle.model.specs.Rooms.{roomFor, isFull, shortage}
 use Rattle.model.specs.Rules.{noGroupNumber, noProcessNumber, mayWrite, available, processGroup, hasChild, hasProcess, heldByChild, numberLine, lineProcess, mayMove, joining, leaving}
 use Rattle.model.specs.Files.{isPresent, contents, membershipLine, fits}
 use Rattle.model.specs.declared.Resource.{Resource}
 use Rattle.model.specs.declared.Resource.the-variants.{Pages, Processes}
 use Rattle.model.specs.declared.Setting.{Setting}
+use Rattle.model.specs.declared.SettingValue.{SettingValue}
 use Rattle.model.specs.declared.Errno.the-variants.{Enoent, Esrch, Eagain, Eacces, Ebusy, Eexist, Einval, Enospc, Erange}
 use Rattle.model.specs.declared.Answer.{Answer}
 

@@ -1,14 +1,14 @@
 -- The tests that the checks of document 01, "Calls and the order of their checks", are made of. Assumes nothing.
 use Prim.Native.Nat.{ℕ}
 use mathlib.Core.Bool.{Bool, false, _&&_, _||_}
-use mathlib.Core.List.{List, [], _∷_}
-use mathlib.Core.Option.{Option, none}
+use mathlib.Core.List.{List}
+use mathlib.Core.Option.{Option}
 use lib.Dec.{eqb, leb}
 use Rattle.model.specs.Functions.{any, orElse}
 use Rattle.model.specs.Sizes.{groups, processes}
 use Rattle.model.specs.Tree.{Tree, Place, nowhere, at, groupOf, cores, parents, owners, sets, places}
 use Rattle.model.specs.Hierarchy.{on, childOf, commonAncestor}
-use Rattle.model.specs.Text.{numberWord, lineWords}
+use Rattle.model.specs.Text.{numberWord, lineWords, oneWord}
 use Rattle.model.specs.Control.{asked, joins, leaves}
 use Rattle.model.specs.declared.Controller.{Controller}
 
@@ -47,13 +47,8 @@ unfoldable pub heldByChild : Tree → ℕ → Controller → Bool
 heldByChild t g c = any groups (λ k. childOf g k (cores t k) && sets t k c)
 
 -- the number of a line that is one number word
-unfoldable pub oneNumber : List (List ℕ) → Option ℕ
-oneNumber [] = none
-oneNumber (w ∷ []) = numberWord w
-oneNumber (w ∷ v ∷ vs) = none
-
 abbrev pub numberLine : List ℕ → Option ℕ
-numberLine line = oneNumber (lineWords line)
+numberLine line = oneWord numberWord (lineWords line)
 
 -- the process that a line of cgroup.procs names; 0 is no process
 abbrev pub lineProcess : List ℕ → ℕ

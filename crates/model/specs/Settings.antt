@@ -9,7 +9,7 @@ use mathlib.Core.Path.{_≡_}
 use Rattle.model.specs.Functions.{pick, mapped, All}
 use Rattle.model.specs.Sizes.{pageBytes}
 use Rattle.model.specs.Tree.{CpuSettings, defaultCpu, Settings, newSettings, withCpu, withAmounts, withLimit, controllerOf}
-use Rattle.model.specs.Text.{space, ended, numberWord, decimal}
+use Rattle.model.specs.Text.{space, ended, oneWord, numberWord, decimal}
 unfoldable pub use Rattle.model.specs.Figures.{limitWord}
 pub use Rattle.model.specs.Figures.{between, figureIn, limitText}
 use Rattle.model.specs.declared.Resource.{Resource}
@@ -20,41 +20,31 @@ use Rattle.model.specs.declared.Controller.{Controller}
 use Rattle.model.specs.declared.Controller.the-variants.{Cpu, Memory, Pids}
 use Rattle.model.specs.declared.Setting.{Setting}
 use Rattle.model.specs.declared.Setting.the-variants.{CpuWeight, CpuMax, Max}
+use Rattle.model.specs.declared.SettingValue.{SettingValue}
+use Rattle.model.specs.declared.SettingValue.the-variants.{Weight, Quota, Bandwidth, Maximum}
 
 abbrev pub settingController : Setting → Controller
 settingController CpuWeight = Cpu
 settingController CpuMax = Cpu
 settingController (Max r) = controllerOf r
 
--- What a line gives a setting, in the file's own figures: cpu.weight; the quota of cpu.max and perhaps its period; a limit.
-pub data SettingValue : Type 0 where
-  weight : ℕ → SettingValue
-  bandwidth : Limit → Option ℕ → SettingValue
-  maximum : Resource → Limit → SettingValue
-
--- The form of a value.
--- "Settings take one word": what a line of one word is read as
-abbrev pub oneWord : {A : Type 0} → (List ℕ → Option A) → List (List ℕ) → Option A
-oneWord read [] = none
-oneWord read (w ∷ []) = read w
-oneWord read (w ∷ v ∷ vs) = none
-
--- "cpu.max one or two": a quota, and perhaps a period, both well formed
+-- The form of a value: "Settings take one word, cpu.max one or two."
+-- a quota and a period, both well formed
 abbrev pub bandwidthOf : Option Limit → Option ℕ → Option SettingValue
 bandwidthOf none p = none
 bandwidthOf (some q) none = none
-bandwidthOf (some q) (some p) = some (bandwidth q (some p))
+bandwidthOf (some q) (some p) = some (Bandwidth q p)
 
 abbrev pub bandwidthWords : List (List ℕ) → Option SettingValue
 bandwidthWords [] = none
-bandwidthWords (w ∷ []) = mapped (λ q. bandwidth q none) (limitWord w)
+bandwidthWords (w ∷ []) = mapped Quota (limitWord w)
 bandwidthWords (w ∷ v ∷ []) = bandwidthOf (limitWord w) (numberWord v)
 bandwidthWords (w ∷ v ∷ u ∷ us) = none
 
 unfoldable pub valueOf : Setting → List (List ℕ) → Option SettingValue
-valueOf CpuWeight ws = mapped weight (oneWord numberWord ws)
+valueOf CpuWeight ws = mapped Weight (oneWord numberWord ws)
 valueOf CpuMax ws = bandwidthWords ws
-valueOf (Max r) ws = mapped (maximum r) (oneWord limitWord ws)
+valueOf (Max r) ws = mapped (Maximum r) (oneWord limitWord ws)
 
 -- The range of a value.
 -- the largest figure of memory.max, in bytes, and of pids.max
@@ -62,14 +52,14 @@ abbrev pub largest : Resource → ℕ
 largest Pages = 4503599627370496
 largest Processes = 4194304
 
-abbrev pub periodIn : Option ℕ → Bool
-periodIn none = true
-periodIn (some p) = between 1000 1000000 p
+abbrev pub quotaIn : Limit → Bool
+quotaIn q = figureIn 1000 1000000000 q
 
 unfoldable pub inRange : SettingValue → Bool
-inRange (weight n) = between 1 10000 n
-inRange (bandwidth q p) = figureIn 1000 1000000000 q && periodIn p
-inRange (maximum r l) = figureIn 0 (largest r) l
+inRange (Weight n) = between 1 10000 n
+inRange (Quota q) = quotaIn q
+inRange (Bandwidth q p) = quotaIn q && between 1000 1000000 p
+inRange (Maximum r l) = figureIn 0 (largest r) l
 
 -- The effect of a value.
 -- "rounded up to a whole page"
@@ -91,22 +81,22 @@ mapLimit f (Figure n) = Figure (f n)
 
 -- "One word leaves the period."
 unfoldable pub put : SettingValue → Settings → Settings
-put (weight n) s = withCpu (record { weight = n; quota = s .cpu .quota; period = s .cpu .period }) s
-put (bandwidth q none) s = withCpu (record { weight = s .cpu .weight; quota = q; period = s .cpu .period }) s
-put (bandwidth q (some p)) s = withCpu (record { weight = s .cpu .weight; quota = q; period = p }) s
-put (maximum r l) s = withAmounts (withLimit r (mapLimit (toAmount r) l) (s .limit)) s
+put (Weight n) s = withCpu (record { weight = n; quota = s .cpu .quota; period = s .cpu .period }) s
+put (Quota q) s = withCpu (record { weight = s .cpu .weight; quota = q; period = s .cpu .period }) s
+put (Bandwidth q p) s = withCpu (record { weight = s .cpu .weight; quota = q; period = p }) s
+put (Maximum r l) s = withAmounts (withLimit r (mapLimit (toAmount r) l) (s .limit)) s
 
 -- What a reader sees of a setting: its values, one a line, and each as text.
 unfoldable pub shown : Setting → Settings → List SettingValue
-shown CpuWeight s = weight (s .cpu .weight) ∷ []
-shown CpuMax s = bandwidth (s .cpu .quota) (some (s .cpu .period)) ∷ []
-shown (Max r) s = maximum r (mapLimit (toFigure r) (s .limit r)) ∷ []
+shown CpuWeight s = Weight (s .cpu .weight) ∷ []
+shown CpuMax s = Bandwidth (s .cpu .quota) (s .cpu .period) ∷ []
+shown (Max r) s = Maximum r (mapLimit (toFigure r) (s .limit r)) ∷ []
 
 unfoldable pub valueText : SettingValue → List ℕ
-valueText (weight n) = decimal n
-valueText (bandwidth q none) = limitText q
-valueText (bandwidth q (some p)) = limitText q ++ (space ∷ decimal p)
-valueText (maximum r l) = limitText l
+valueText (Weight n) = decimal n
+valueText (Quota q) = limitText q
+valueText (Bandwidth q p) = limitText q ++ (space ∷ decimal p)
+valueText (Maximum r l) = limitText l
 
 -- the lines of its file
 abbrev pub shownLines : Setting → Settings → List (List ℕ)

@@ -34,6 +34,15 @@ pub enum Setting {
     Max(Resource),
 }
 
+// What a line gives a setting, in the file's own figures: memory.max in bytes.
+pub enum SettingValue {
+    Weight(u64),
+    // cpu.max with one word, which leaves the period
+    Quota(Limit),
+    Bandwidth(Limit, u64),
+    Maximum(Resource, Limit),
+}
+
 // The files of a group: cgroup.procs, cgroup.controllers, cgroup.subtree_control, cgroup.events,
 // memory.current or pids.current, and the settings.
 pub enum File {

@@ -1,13 +1,13 @@
 -- A write to cgroup.procs: the answers of its vets, the tests that they make, and the whole call by what its vets and its stores
 -- say. Assumes nothing.
-use Prim.Native.Nat.{ℕ, _<_}
+use Prim.Native.Nat.{ℕ, _^_, _≤_, _<_}
 use native.Mathlib.Omega.{arith}
 use mathlib.Core.Bool.{Bool, true, false}
 use mathlib.Core.List.{List, _++_}
 use mathlib.Core.Logic.{_≢_}
-use mathlib.Core.Option.{some}
 use mathlib.Core.Path.{_≡_, refl, ap, sym, _∙_}
-use borrow.Author.Tests.{le-leb, lt-leb, eq-eqb, ne-eqb, not-true, not-false}
+use lib.Dec.{ltb}
+use borrow.Author.Tests.{ltb-true, ltb-false, le-leb, lt-leb, eq-eqb, ne-eqb, not-true, not-false}
 use Rattle.model.specs.Functions.{known, orElse}
 use Rattle.model.specs.Sizes.{groups, processes}
 use Rattle.model.specs.Checks.{Check, first, Pass, Says, done, barred, lacking, past, met}
@@ -29,10 +29,10 @@ use Rattle.model.proofs.CheckLaws.{andThen, first-append, first-pass, says-firs
 use Rattle.model.proofs.ChainLaws.{inside-live, ancestor-of-left}
 use Rattle.model.proofs.Steps.{process-lives}
 use Rattle.model.proofs.VetLaws.{tested}
-use Rattle.text.proofs.NumberLaws.{is-none, is-large, is-figure}
-use Rattle.text.specs.Number.{asNumber}
+use Rattle.text.proofs.NumberLaws.{is-none, is-figure}
+use Rattle.text.specs.Number.{clip, asNumber}
 use Rattle.text.specs.declared.number.Number.{Number}
-use Rattle.text.specs.declared.number.Number.the-variants.{Figure, TooLarge, NotANumber}
+use Rattle.text.specs.declared.number.Number.the-variants.{Figure, NotANumber}
 use Rattle.tree.specs.Layout.{view}
 use Rattle.tree.specs.Counters.{listed, ChainOf}
 use Rattle.tree.specs.Kept.{Kept, KeptAt}
@@ -66,6 +66,20 @@ named-number : (a : Answer) (p : ℕ) (q : ProcessId) → namedBy a p ≡ Named.
 named-number Done p q h = let d : _≡_ {A = ProcessId} q (record { 0 = p }) = cc in ap (λ (x : ProcessId). x .0) d
 named-number (Refused x) p q h = let z : _≡_ {A = ℕ} 0 1 = cc in absurd (omega arith)
 
+-- A number beyond the range is no process's, so what clips it does not matter.
+module _ (t : Tree) where
+  named-beyond : (k : ℕ) → processes ≤ k → Named.Refused Esrch ≡ namedBy (first (numberChecks t k)) k
+  unfolding numberChecks
+  named-beyond k h = names-refused k (past (ne-eqb k 0 (λ z. omega arith)) (barred (le-leb processes k h)))
+
+  named-clip : (k : ℕ) → namedBy (first (numberChecks t (clip k))) (clip k) ≡ namedBy (first (numberChecks t k)) k
+  named-clip k =
+      split (ltb k (2 ^ 64))
+      (λ y. let e : clip k ≡ k = omega (arith, ltb-true k (2 ^ 64) y) in ap (λ (x : ℕ). namedBy (first (numberChecks t x)) x) e)
+      (λ x.
+      let h = ltb-false k (2 ^ 64) x in
+      sym (named-beyond (clip k) (omega arith)) ∙ named-beyond k (omega arith))
+
 -- The line, by what its number says.
 module _ (t : Tree) (line : List ℕ) (b : Bool) (e : b ≡ tooLong line) where
   pub line-long : b ≡ true → Named.Refused Einval ≡ namedBy (first (lineChecks t line)) (lineProcess line)
@@ -82,24 +96,13 @@ module _ (t : Tree) (line : List ℕ) (b : Bool) (e : b ≡ tooLong line) where
       unfolding lineChecks
       line-malformed q = names-refused _ (past line-short (lacking (ap known (is-none (numberLine line) (sym q ∙ f)))))
 
-      -- a number of 2 ^ 64 or more is no process's
-      pub line-large : n ≡ TooLarge → Named.Refused Esrch ≡ namedBy (first (lineChecks t line)) (lineProcess line)
-      unfolding lineChecks numberChecks
-      line-large q =
-          let l = is-large (numberLine line) (sym q ∙ f) in
-          let v : lineProcess line ≡ l .value = ap (orElse 0) (l .is) in
-          names-refused _
-          (past line-short
-          (met (ap known (l .is))
-          (past (ne-eqb (lineProcess line) 0 (λ z. omega (arith, l .large)))
-          (barred (le-leb processes (lineProcess line) (omega (arith, l .large)))))))
-
       pub line-figure : (m : ℕ) → n ≡ Figure m → (r : Named) → r ≡ namedBy (first (numberChecks t m)) m
           → r ≡ namedBy (first (lineChecks t line)) (lineProcess line)
       unfolding lineChecks first
       line-figure m q r g =
-          let o : numberLine line ≡ some m = is-figure (numberLine line) m (sym q ∙ f) in
-          g ∙ ap (λ (k : ℕ). namedBy (first (numberChecks t k)) k) (sym (ap (orElse 0) o)) ∙ sym (rw (line-short, ap known o))
+          let o = is-figure (numberLine line) m (sym q ∙ f) in
+          g ∙ ap (λ (k : ℕ). namedBy (first (numberChecks t k)) k) (o .2) ∙ named-clip t (o .0)
+          ∙ ap (λ (k : ℕ). namedBy (first (numberChecks t k)) k) (sym (ap (orElse 0) (o .1))) ∙ sym (rw (line-short, ap known (o .1)))
 
 -- The second permission.
 module _ (t : Tree) (user p g : ℕ) where

@@ -68,8 +68,8 @@ fn vet_number(tree: &Tree, figure: u64) -> Named
     Named::Process(ProcessId(figure))
 }
 
-// 22 the line too long, or not one number word; then as its number. A number that does not fit 64 bits is well formed, and no
-// process's.
+// 22 the line too long, or not one number word; then as its number. A number that does not fit 64 bits is well formed, and read
+// as one that is no process's.
 fn vet_line(tree: &Tree, line: &[u8]) -> Named
     ensures { λ r. ⌜ r ≡ namedBy (first (lineChecks (view (now (tree .entry))) (now (line .entry)))) (lineProcess (now (line .entry))) ⌝ }
 {
@@ -79,7 +79,6 @@ fn vet_line(tree: &Tree, line: &[u8]) -> Named
     let number = read_number_line(line);
     match number {
         Number::Figure(figure) => vet_number(tree, figure),
-        Number::TooLarge => Named::Refused(Errno::Esrch),
         Number::NotANumber => Named::Refused(Errno::Einval),
     }
 }

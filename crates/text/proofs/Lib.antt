@@ -6,6 +6,6 @@ pub mod NumberLaws
 pub mod ControlLaws
 pub mod BadWordLaws
 pub mod ValueLaws
-pub mod ReadingLaws
+pub mod AmountLaws
 pub mod WriteLaws
 pub mod DecimalLaws

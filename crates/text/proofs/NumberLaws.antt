@@ -7,22 +7,15 @@ use mathlib.Core.Option.{Option, none, some}
 use mathlib.Core.Path.{_≡_, refl, ap, sym, _∙_}
 use native.Mathlib.Numerals.{add-one}
 use native.Mathlib.Omega.{arith}
-use lib.Dec.{leb, ltb}
+use lib.Dec.{leb}
 use lib.ListN.{length, getD, drop}
 use lib.Seq.{drop-cons, drop-length}
-use types.Run.{OneOf, miss}
-use denote.Enum.Declared.{tagOf}
-use borrow.Author.Tests.{le-ltb, lt-ltb, le-leb, lt-leb, leb-true, ltb-false}
+use borrow.Author.Tests.{le-leb, lt-leb, leb-true}
 use Rattle.model.specs.Functions.{pick, known}
-use Rattle.model.specs.Text.{isDigit, digitsFrom, numberWord, lineWords}
-use Rattle.model.specs.Rules.{oneNumber, numberLine}
-use Rattle.text.specs.Line.{cut, OneWord, SplitAs}
-use Rattle.text.specs.Number.{asNumber}
-use Rattle.text.specs.declared.line.Span.{Span}
-use Rattle.text.specs.declared.line.Words.{Words}
-use Rattle.text.specs.declared.line.Words.the-variants.{Empty, One, Two, More}
-use Rattle.text.specs.declared.number.Number.the-variants.{Figure, TooLarge, NotANumber}
-use Rattle.text.proofs.line.Words.{the-type}
+use Rattle.model.specs.Text.{oneWord, isDigit, digitsFrom, numberWord}
+use Rattle.text.specs.Line.{soleWord}
+use Rattle.text.specs.Number.{clip, asNumber}
+use Rattle.text.specs.declared.number.Number.the-variants.{Figure, NotANumber}
 
 digit-in : (b : ℕ) → 48 ≤ b → b ≤ 57 → isDigit b ≡ true
 digit-in b h k = simp (le-leb 48 b h, le-leb b 57 k)
@@ -54,13 +47,13 @@ known-alike (b ∷ l) m n = go (isDigit b) _ _ (known-alike l (m * 10 + (b - 48)
     go false o p e = refl
 
 -- a number only grows by further digits
-large-more : (l : List ℕ) (n : ℕ) → 2 ^ 64 ≤ n → known (digitsFrom n l) ≡ true → asNumber (digitsFrom n l) ≡ TooLarge
-unfolding digitsFrom asNumber
-large-more [] n h k = rw (le-ltb n (2 ^ 64) h)
+large-more : (l : List ℕ) (n : ℕ) → 2 ^ 64 ≤ n → known (digitsFrom n l) ≡ true → asNumber (digitsFrom n l) ≡ Figure (2 ^ 64 - 1)
+unfolding digitsFrom
+large-more [] n h k = let e : clip n ≡ 2 ^ 64 - 1 = omega arith in ap Figure e
 large-more (b ∷ l) n h k = go (isDigit b) _ (large-more l (n * 10 + (b - 48)) (omega arith)) k
   where
-    go : (t : Bool) (o : Option ℕ) → (known o ≡ true → asNumber o ≡ TooLarge)
-        → known (pick t o none) ≡ true → asNumber (pick t o none) ≡ TooLarge
+    go : (t : Bool) (o : Option ℕ) → (known o ≡ true → asNumber o ≡ Figure (2 ^ 64 - 1))
+        → known (pick t o none) ≡ true → asNumber (pick t o none) ≡ Figure (2 ^ 64 - 1)
     go true o f k = f k
     go false o f k = let z : _≡_ {A = ℕ} 0 1 = cc in absurd (omega arith)
 
@@ -121,7 +114,6 @@ pub record Left (w : List ℕ) (i v : ℕ) : Type 0 where
   pub digits : known (digitsFrom v (drop i w)) ≡ true
 
 pub left-none : (o : Option ℕ) → known o ≡ false → NotANumber ≡ asNumber o
-unfolding asNumber
 left-none none k = refl
 left-none (some n) k = let z : _≡_ {A = ℕ} 0 1 = cc in absurd (omega arith)
 
@@ -138,7 +130,7 @@ module _ (w : List ℕ) (i v : ℕ) (s : Left w i v) (h : i < length w) where
   more = digits-more w i v h (digit-here w i v h (s .digits))
 
   module _ (d : ℕ) (e : d ≡ getD w i 0 - 48) where
-    pub left-over : 2 ^ 64 ≤ v * 10 + d → TooLarge ≡ asNumber (numberWord w)
+    pub left-over : 2 ^ 64 ≤ v * 10 + d → Figure (2 ^ 64 - 1) ≡ asNumber (numberWord w)
     left-over o =
         sym (large-more (drop (i + 1) w) (v * 10 + (getD w i 0 - 48)) (omega arith) (sym (ap known more) ∙ s .digits))
         ∙ sym (ap asNumber more)
@@ -148,62 +140,30 @@ module _ (w : List ℕ) (i v : ℕ) (s : Left w i v) (h : i < length w) where
     left-more = rw e (record { number = sym (ap asNumber more) ∙ s .number; digits = sym (ap known more) ∙ s .digits })
 
 pub left-end : (w : List ℕ) (i v : ℕ) → Left w i v → i ≡ length w → v < 2 ^ 64 → Figure v ≡ asNumber (numberWord w)
-unfolding asNumber
 left-end w i v s p h =
-    let fit : Figure v ≡ asNumber (some v) = rw (lt-ltb v (2 ^ 64) h) in
-    fit ∙ sym (ap asNumber (digits-end w i v p)) ∙ s .number
+    let fit : v ≡ clip v = omega arith in
+    ap Figure fit ∙ sym (ap asNumber (digits-end w i v p)) ∙ s .number
 
 -- ---- what an answer says of the word
 
--- a number of 2 ^ 64 or more
-pub record Large (o : Option ℕ) : Type 0 where
-  pub value : ℕ
-  pub is : o ≡ some value
-  pub large : 2 ^ 64 ≤ value
-
 pub is-none : (o : Option ℕ) → NotANumber ≡ asNumber o → o ≡ none
-unfolding asNumber
 is-none none e = refl
-is-none (some m) e = go (ltb m (2 ^ 64)) e
-  where
-    go : (t : Bool) → NotANumber ≡ pick t (Figure m) TooLarge → some m ≡ none
-    go true e = let z : _≡_ {A = ℕ} 0 1 = cc in absurd (omega arith)
-    go false e = let z : _≡_ {A = ℕ} 0 1 = cc in absurd (omega arith)
+is-none (some m) e = let z : _≡_ {A = ℕ} 0 1 = cc in absurd (omega arith)
 
-pub is-large : (o : Option ℕ) → TooLarge ≡ asNumber o → Large o
-unfolding asNumber
-is-large none e = let z : _≡_ {A = ℕ} 0 1 = cc in absurd (omega arith)
-is-large (some m) e = go (ltb m (2 ^ 64)) refl e
-  where
-    go : (t : Bool) → ltb m (2 ^ 64) ≡ t → TooLarge ≡ pick t (Figure m) TooLarge → Large (some m)
-    go true h e = let z : _≡_ {A = ℕ} 0 1 = cc in absurd (omega arith)
-    go false h e = record { value = m; is = refl; large = ltb-false m (2 ^ 64) h }
-
-pub is-figure : (o : Option ℕ) (n : ℕ) → Figure n ≡ asNumber o → o ≡ some n
-unfolding asNumber
+pub is-figure : (o : Option ℕ) (n : ℕ) → Figure n ≡ asNumber o → (m : ℕ) × (o ≡ some m) × (n ≡ clip m)
 is-figure none n e = let z : _≡_ {A = ℕ} 0 1 = cc in absurd (omega arith)
-is-figure (some m) n e = go (ltb m (2 ^ 64)) e
-  where
-    go : (t : Bool) → Figure n ≡ pick t (Figure m) TooLarge → some m ≡ some n
-    go true e = cc
-    go false e = let z : _≡_ {A = ℕ} 0 1 = cc in absurd (omega arith)
+is-figure (some m) n e = (m, refl, cc)
 
 -- ---- a line of one word
 
-pub one-word : (line : List ℕ) (p : Span) → OneWord line p → numberLine line ≡ numberWord (cut line p)
-unfolding oneNumber
-one-word line p o = rw (o .words-are)
+-- what no bytes are not read as
+pub sole-read : {A : Type 0} (read : List ℕ → Option A) → read [] ≡ none → (ws : List (List ℕ))
+    → read (soleWord ws) ≡ oneWord read ws
+unfolding oneWord
+sole-read read e [] = e
+sole-read read e (w ∷ []) = refl
+sole-read read e (w ∷ v ∷ vs) = e
 
--- no number where the words are of another kind, by the number of their variant
-pub other-words : (line : List ℕ) (r : Words) → SplitAs line r → OneOf (0 ∷ 2 ∷ 3 ∷ []) (tagOf the-type r)
-    → numberLine line ≡ none
-unfolding oneNumber
-other-words line Empty s k = rw s
-other-words line (One p) s k = absurd (miss (0 ∷ 2 ∷ 3 ∷ []) 1 tt k)
-other-words line (Two p q) s k = rw (s .words-are)
-other-words line More s k = go (lineWords line) s
-  where
-    go : (ws : List (List ℕ)) → 2 < length ws → oneNumber ws ≡ none
-    go [] h = refl
-    go (w ∷ []) h = absurd (omega arith)
-    go (w ∷ v ∷ ws) h = refl
+pub sole-number : (ws : List (List ℕ)) → numberWord (soleWord ws) ≡ oneWord numberWord ws
+unfolding numberWord
+sole-number ws = sole-read numberWord refl ws

@@ -1,16 +1,20 @@
 -- The words of a line from the next words of its text: parts of the text are parts of the line, then the four ways in
--- which a line is split. Assumes nothing.
-use Prim.Native.Nat.{ℕ, zero, suc, _-_, _≤_}
+-- which a line is split, and the word of a line that has exactly one. Assumes nothing.
+use Prim.Native.Nat.{ℕ, zero, suc, _-_, _≤_, _<_}
 use mathlib.Core.List.{List, [], _∷_}
-use mathlib.Core.Path.{_≡_, ap, sym, _∙_}
+use mathlib.Core.Path.{_≡_, refl, ap, sym, _∙_}
 use native.Mathlib.Numerals.{unary-clauses}
 use native.Mathlib.Omega.{arith}
 use lib.ListN.{length, take, drop}
 use lib.Seq.{length-take-le, take-take, take-nil, drop-nil}
+use types.Run.{OneOf, miss}
+use denote.Enum.Declared.{tagOf}
 use Rattle.model.specs.Text.{words, lineWords}
-use Rattle.text.specs.Line.{cut, Inside, LineEnd, NextWord, SplitAs}
+use Rattle.text.specs.Line.{cut, Inside, LineEnd, NextWord, OneWord, SplitAs, soleWord}
 use Rattle.text.specs.declared.line.Span.{Span}
+use Rattle.text.specs.declared.line.Words.{Words}
 use Rattle.text.specs.declared.line.Words.the-variants.{Empty, One, Two, More}
+use Rattle.text.proofs.line.Words.{the-type}
 use Rattle.text.proofs.LineLaws.{line-end-inside}
 use Rattle.text.proofs.WordLaws.{words-next, words-none}
 
@@ -74,3 +78,21 @@ module _ (line : List ℕ) (n : ℕ) (e : LineEnd line n) where
         split-more j =
             rw (words-of-text, next-of-text 0 p w m, next-of-text (p .end) q v k, next-of-text (q .end) r u j)
             (omega arith)
+
+-- ---- the word of a line that has exactly one
+
+pub one-word : (line : List ℕ) (p : Span) → OneWord line p → cut line p ≡ soleWord (lineWords line)
+one-word line p o = rw (o .words-are)
+
+-- no bytes where the words are of another kind, by the number of their variant
+pub other-words : (line : List ℕ) (r : Words) → SplitAs line r → OneOf (0 ∷ 2 ∷ 3 ∷ []) (tagOf the-type r)
+    → [] ≡ soleWord (lineWords line)
+other-words line Empty s k = rw s
+other-words line (One p) s k = absurd (miss (0 ∷ 2 ∷ 3 ∷ []) 1 tt k)
+other-words line (Two p q) s k = rw (s .words-are)
+other-words line More s k = go (lineWords line) s
+  where
+    go : (ws : List (List ℕ)) → 2 < length ws → [] ≡ soleWord ws
+    go [] h = refl
+    go (w ∷ []) h = absurd (omega arith)
+    go (w ∷ v ∷ ws) h = refl

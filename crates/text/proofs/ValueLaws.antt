@@ -1,203 +1,215 @@
--- Laws of values: a number and a limit with a range, what one word or two give a setting, and a line. Assumes nothing.
-use Prim.Native.Nat.{ℕ, _^_, _≤_, _<_}
+-- Laws of values: ranges and clipping, the forms of a limit and of a line, and what an answer of `read_value` says. Assumes
+-- nothing.
+use Prim.Native.Nat.{ℕ, _-_, _^_, _≤_, _<_}
 use mathlib.Core.Bool.{Bool, true, false, _&&_}
 use mathlib.Core.List.{List, [], _∷_}
 use mathlib.Core.Option.{Option, none, some}
-use mathlib.Core.Path.{_≡_, refl, ap, ap₂, _∙_}
+use mathlib.Core.Path.{_≡_, refl, ap, ap₂, sym, _∙_}
 use native.Mathlib.Omega.{arith}
-use lib.Dec.{leb}
+use lib.Dec.{leb, ltb}
 use lib.ListN.{length}
-use borrow.Author.Tests.{le-leb, lt-leb}
-use Rattle.model.specs.Functions.{pick, mapped}
-use Rattle.model.specs.Text.{bytes, sameBytes, numberWord}
-use Rattle.model.specs.Settings.{weight, bandwidth, maximum, limitWord, bandwidthOf, valueOf, between, largest, figureIn}
-use Rattle.model.specs.Settings.{inRange}
-use Rattle.model.specs.declared.Limit.{Limit}
+use borrow.Author.Tests.{le-leb, lt-leb, ltb-true, ltb-false}
+use Rattle.model.specs.Functions.{known, passes, mapped}
+use Rattle.model.specs.Text.{bytes, sameBytes, oneWord, numberWord, lineWords}
+use Rattle.model.specs.Settings.{limitWord, bandwidthOf, valueOf, between, figureIn, quotaIn, largest, inRange, mapLimit}
 use Rattle.model.specs.declared.Resource.{Resource}
-use Rattle.model.specs.declared.Setting.{Setting}
+use Rattle.model.specs.declared.Resource.the-variants.{Pages, Processes}
+use Rattle.model.specs.declared.Limit.{Limit}
+use Rattle.model.specs.declared.Limit.the-variants.{NoLimit, Figure}
 use Rattle.model.specs.declared.Setting.the-variants.{CpuWeight, CpuMax, Max}
-use Rattle.text.specs.Number.{asNumber}
-use Rattle.text.specs.Value.{rangedNumber, rangedLimit, readingOf}
+use Rattle.model.specs.declared.SettingValue.{SettingValue}
+use Rattle.model.specs.declared.SettingValue.the-variants.{Weight, Quota, Bandwidth, Maximum}
+use Rattle.model.proofs.FunctionLaws.{split}
+use Rattle.model.proofs.FigureLaws.{between-le}
+use Rattle.model.proofs.SettingLaws.{range-of-quota, range-of-period}
+use Rattle.text.specs.Line.{soleWord}
+use Rattle.text.specs.Number.{clip, asNumber}
+use Rattle.text.specs.Value.{clipped, asLimitWord, asLineValue}
 use Rattle.text.specs.declared.number.Number.{Number}
-use Rattle.text.specs.declared.value.RangedNumber.{RangedNumber}
-use Rattle.text.specs.declared.value.RangedLimit.{RangedLimit}
-use Rattle.text.specs.declared.value.Reading.{Reading}
-use Rattle.text.proofs.NumberLaws.{is-none, is-large, is-figure}
+use Rattle.text.specs.declared.value.LimitWord.{LimitWord}
+use Rattle.text.specs.declared.value.LineValue.{LineValue}
+use Rattle.text.proofs.NumberLaws.{sole-read}
 
--- ---- a number with its range
+-- ---- a range
 
 module _ (low high n : ℕ) where
-  pub below-range : n < low → between low high n ≡ false
+  pub below-range : n < low → false ≡ between low high n
   below-range h = rw (lt-leb low n h)
 
-  pub above-range : high < n → between low high n ≡ false
+  pub above-low : low ≤ n → leb n high ≡ between low high n
+  above-low h = rw (le-leb low n h)
+
+  above-range : high < n → between low high n ≡ false
   above-range h = rw (lt-leb n high h) (go (leb low n))
     where
       go : (t : Bool) → t && false ≡ false
       go true = refl
       go false = refl
 
-  pub within-range : low ≤ n → n ≤ high → between low high n ≡ true
-  within-range h k = rw (le-leb low n h, le-leb n high k)
+module _ (q : Limit) (p : ℕ) where
+  pub quota-out : quotaIn q ≡ false → false ≡ inRange (Bandwidth q p)
+  unfolding inRange
+  quota-out h = rw h
 
-module _ (low high : ℕ) (o : Option ℕ) where
-  pub ranged-none : Number.NotANumber ≡ asNumber o → RangedNumber.Malformed ≡ rangedNumber low high o
-  ranged-none e = rw (is-none o e)
+  pub quota-in : (b : Bool) → quotaIn q ≡ true → b ≡ between 1000 1000000 p → b ≡ inRange (Bandwidth q p)
+  unfolding inRange
+  quota-in b h e = e ∙ rw h
 
-  -- a number of 2 ^ 64 or more is out of every range
-  pub ranged-large : high < 2 ^ 64 → Number.TooLarge ≡ asNumber o → RangedNumber.OutOfRange ≡ rangedNumber low high o
-  ranged-large h e =
-      let l = is-large o e in
-      rw (l .is, above-range low high (l .value) (omega (arith, l .large)))
+-- ---- clipping: it does not change whether a value is in its range, and leaves a value that is
 
-  pub ranged-figure : (n : ℕ) → Number.Figure n ≡ asNumber o
-      → pick (between low high n) (RangedNumber.In n) RangedNumber.OutOfRange ≡ rangedNumber low high o
-  ranged-figure n e = rw (is-figure o n e)
+module _ (low high : ℕ) (fits : high < 2 ^ 64 - 1) where
+  between-clip : (n : ℕ) → between low high (clip n) ≡ between low high n
+  between-clip n =
+      split (ltb n (2 ^ 64))
+      (λ y. let e : clip n ≡ n = omega (arith, ltb-true n (2 ^ 64) y) in ap (between low high) e)
+      (λ x. let h = ltb-false n (2 ^ 64) x in above-range low high (clip n) (omega arith) ∙ sym (above-range low high n (omega arith)))
 
--- ---- a limit with its range
+  clip-between : (n : ℕ) → between low high n ≡ true → clip n ≡ n
+  clip-between n h = omega (arith, between-le low high n h)
 
-abbrev pub asLimit : RangedNumber → RangedLimit
-asLimit (RangedNumber.In n) = RangedLimit.In (Limit.Figure n)
-asLimit RangedNumber.Malformed = RangedLimit.Malformed
-asLimit RangedNumber.OutOfRange = RangedLimit.OutOfRange
+  figureIn-clip : (l : Limit) → figureIn low high (mapLimit clip l) ≡ figureIn low high l
+  figureIn-clip NoLimit = refl
+  figureIn-clip (Figure n) = between-clip n
 
-module _ (low high : ℕ) (w : List ℕ) where
-  pub limit-max : sameBytes w (bytes "max") ≡ true → RangedLimit.In Limit.NoLimit ≡ rangedLimit low high (limitWord w)
+  clip-figureIn : (l : Limit) → figureIn low high l ≡ true → mapLimit clip l ≡ l
+  clip-figureIn NoLimit h = refl
+  clip-figureIn (Figure n) h = ap Figure (clip-between n h)
+
+largest-fits : (r : Resource) → largest r < 2 ^ 64 - 1
+largest-fits Pages = omega arith
+largest-fits Processes = omega arith
+
+pub range-of-clipped : (v : SettingValue) → inRange (clipped v) ≡ inRange v
+unfolding inRange
+range-of-clipped (Weight n) = between-clip 1 10000 (omega arith) n
+range-of-clipped (Quota q) = figureIn-clip 1000 1000000000 (omega arith) q
+range-of-clipped (Bandwidth q p) =
+    ap₂ _&&_ (figureIn-clip 1000 1000000000 (omega arith) q) (between-clip 1000 1000000 (omega arith) p)
+range-of-clipped (Maximum r l) = figureIn-clip 0 (largest r) (largest-fits r) l
+
+pub clipped-in-range : (v : SettingValue) → inRange v ≡ true → clipped v ≡ v
+unfolding inRange
+clipped-in-range (Weight n) h = ap Weight (clip-between 1 10000 (omega arith) n h)
+clipped-in-range (Quota q) h = ap Quota (clip-figureIn 1000 1000000000 (omega arith) q h)
+clipped-in-range (Bandwidth q p) h =
+    ap₂ Bandwidth (clip-figureIn 1000 1000000000 (omega arith) q (range-of-quota q p h))
+    (clip-between 1000 1000000 (omega arith) p (range-of-period q p h))
+clipped-in-range (Maximum r l) h = ap (Maximum r) (clip-figureIn 0 (largest r) (largest-fits r) l h)
+
+-- ---- a limit
+
+abbrev pub limitOf : Number → LimitWord
+limitOf (Number.Figure n) = LimitWord.Of (Figure n)
+limitOf Number.NotANumber = LimitWord.Malformed
+
+module _ (w : List ℕ) where
+  pub limit-max : sameBytes w (bytes "max") ≡ true → LimitWord.Of NoLimit ≡ asLimitWord (limitWord w)
   unfolding limitWord
   limit-max e = rw e
 
-  pub limit-number : sameBytes w (bytes "max") ≡ false → (r : RangedNumber) → r ≡ rangedNumber low high (numberWord w)
-      → asLimit r ≡ rangedLimit low high (limitWord w)
+  pub limit-number : sameBytes w (bytes "max") ≡ false → (n : Number) → n ≡ asNumber (numberWord w)
+      → limitOf n ≡ asLimitWord (limitWord w)
   unfolding limitWord
-  limit-number e r f = ap asLimit f ∙ rw e (go (numberWord w))
+  limit-number e n f = ap limitOf f ∙ rw e (go (numberWord w))
     where
-      pass : (n : ℕ) (t : Bool)
-          → asLimit (pick t (RangedNumber.In n) RangedNumber.OutOfRange)
-          ≡ pick t (RangedLimit.In (Limit.Figure n)) RangedLimit.OutOfRange
-      pass n true = refl
-      pass n false = refl
-
-      go : (o : Option ℕ) → asLimit (rangedNumber low high o) ≡ rangedLimit low high (mapped Limit.Figure o)
+      go : (o : Option ℕ) → limitOf (asNumber o) ≡ asLimitWord (mapped Figure o)
       go none = refl
-      go (some n) = pass n (between low high n)
+      go (some m) = refl
 
--- ---- one word
+-- ---- a line, by what its words say
 
-abbrev pub weightReading : RangedNumber → Reading
-weightReading (RangedNumber.In n) = Reading.Weight n
-weightReading RangedNumber.Malformed = Reading.Malformed
-weightReading RangedNumber.OutOfRange = Reading.OutOfRange
+abbrev pub weightLine : Number → LineValue
+weightLine (Number.Figure n) = LineValue.Of (Weight n)
+weightLine Number.NotANumber = LineValue.Malformed
 
-pub weight-read : (w : List ℕ) (r : RangedNumber) → r ≡ rangedNumber 1 10000 (numberWord w)
-    → weightReading r ≡ readingOf (valueOf CpuWeight (w ∷ []))
-unfolding valueOf inRange
-weight-read w r e = ap weightReading e ∙ go (numberWord w)
+abbrev pub limitLine : (Limit → SettingValue) → LimitWord → LineValue
+limitLine f (LimitWord.Of l) = LineValue.Of (f l)
+limitLine f LimitWord.Malformed = LineValue.Malformed
+
+abbrev pub bandwidthLine : LimitWord → Number → LineValue
+bandwidthLine LimitWord.Malformed p = LineValue.Malformed
+bandwidthLine (LimitWord.Of q) Number.NotANumber = LineValue.Malformed
+bandwidthLine (LimitWord.Of q) (Number.Figure p) = LineValue.Of (Bandwidth q p)
+
+pub weight-read : (line : List ℕ) (n : Number) → n ≡ asNumber (oneWord numberWord (lineWords line))
+    → weightLine n ≡ asLineValue (valueOf CpuWeight (lineWords line))
+unfolding valueOf
+weight-read line n e = ap weightLine e ∙ go (oneWord numberWord (lineWords line))
   where
-    pass : (n : ℕ) (t : Bool)
-        → weightReading (pick t (RangedNumber.In n) RangedNumber.OutOfRange)
-        ≡ pick t (Reading.Weight n) Reading.OutOfRange
-    pass n true = refl
-    pass n false = refl
-
-    go : (o : Option ℕ) → weightReading (rangedNumber 1 10000 o) ≡ readingOf (mapped weight o)
+    go : (o : Option ℕ) → weightLine (asNumber o) ≡ asLineValue (mapped Weight o)
     go none = refl
-    go (some n) = pass n (between 1 10000 n)
+    go (some m) = refl
 
--- a limit as what `put` makes of it
-abbrev pub limitReading : (Limit → Reading) → RangedLimit → Reading
-limitReading put (RangedLimit.In l) = put l
-limitReading put RangedLimit.Malformed = Reading.Malformed
-limitReading put RangedLimit.OutOfRange = Reading.OutOfRange
-
-limit-pass : (put : Limit → Reading) (l : Limit) (t : Bool)
-    → limitReading put (pick t (RangedLimit.In l) RangedLimit.OutOfRange) ≡ pick t (put l) Reading.OutOfRange
-limit-pass put l true = refl
-limit-pass put l false = refl
-
-pub quota-read : (w : List ℕ) (r : RangedLimit) → r ≡ rangedLimit 1000 1000000000 (limitWord w)
-    → limitReading Reading.Quota r ≡ readingOf (valueOf CpuMax (w ∷ []))
-unfolding valueOf inRange
-quota-read w r e = ap (limitReading Reading.Quota) e ∙ go (limitWord w)
+pub quota-read : (w : List ℕ) (q : LimitWord) → q ≡ asLimitWord (limitWord w)
+    → limitLine Quota q ≡ asLineValue (valueOf CpuMax (w ∷ []))
+unfolding valueOf
+quota-read w q e = ap (limitLine Quota) e ∙ go (limitWord w)
   where
-    go : (o : Option Limit)
-        → limitReading Reading.Quota (rangedLimit 1000 1000000000 o) ≡ readingOf (mapped (λ q. bandwidth q none) o)
+    go : (o : Option Limit) → limitLine Quota (asLimitWord o) ≡ asLineValue (mapped Quota o)
     go none = refl
-    go (some l) = both (figureIn 1000 1000000000 l)
-      where
-        both : (t : Bool)
-            → limitReading Reading.Quota (pick t (RangedLimit.In l) RangedLimit.OutOfRange)
-            ≡ pick (t && true) (Reading.Quota l) Reading.OutOfRange
-        both true = refl
-        both false = refl
+    go (some l) = refl
 
-pub max-read : (s : Resource) (w : List ℕ) (r : RangedLimit) → r ≡ rangedLimit 0 (largest s) (limitWord w)
-    → limitReading (Reading.Max s) r ≡ readingOf (valueOf (Max s) (w ∷ []))
-unfolding valueOf inRange
-max-read s w r e = ap (limitReading (Reading.Max s)) e ∙ go (limitWord w)
+pub bandwidth-read : (w v : List ℕ) (q : LimitWord) (p : Number) → q ≡ asLimitWord (limitWord w) → p ≡ asNumber (numberWord v)
+    → bandwidthLine q p ≡ asLineValue (valueOf CpuMax (w ∷ v ∷ []))
+unfolding valueOf
+bandwidth-read w v q p e f = ap₂ bandwidthLine e f ∙ go (limitWord w) (numberWord v)
   where
-    go : (o : Option Limit) → limitReading (Reading.Max s) (rangedLimit 0 (largest s) o) ≡ readingOf (mapped (maximum s) o)
-    go none = refl
-    go (some l) = limit-pass (Reading.Max s) l (figureIn 0 (largest s) l)
-
--- ---- two words
-
-abbrev pub bandwidthReading : RangedLimit → RangedNumber → Reading
-bandwidthReading RangedLimit.Malformed p = Reading.Malformed
-bandwidthReading RangedLimit.OutOfRange RangedNumber.Malformed = Reading.Malformed
-bandwidthReading RangedLimit.OutOfRange RangedNumber.OutOfRange = Reading.OutOfRange
-bandwidthReading RangedLimit.OutOfRange (RangedNumber.In p) = Reading.OutOfRange
-bandwidthReading (RangedLimit.In q) RangedNumber.Malformed = Reading.Malformed
-bandwidthReading (RangedLimit.In q) RangedNumber.OutOfRange = Reading.OutOfRange
-bandwidthReading (RangedLimit.In q) (RangedNumber.In p) = Reading.Bandwidth q p
-
-pub bandwidth-read : (w v : List ℕ) (q : RangedLimit) (p : RangedNumber)
-    → q ≡ rangedLimit 1000 1000000000 (limitWord w) → p ≡ rangedNumber 1000 1000000 (numberWord v)
-    → bandwidthReading q p ≡ readingOf (valueOf CpuMax (w ∷ v ∷ []))
-unfolding valueOf inRange
-bandwidth-read w v q p e f = ap₂ bandwidthReading e f ∙ go (limitWord w) (numberWord v)
-  where
-    none-last : (l : Limit) (t : Bool)
-        → bandwidthReading (pick t (RangedLimit.In l) RangedLimit.OutOfRange) RangedNumber.Malformed ≡ Reading.Malformed
-    none-last l true = refl
-    none-last l false = refl
-
-    both : (l : Limit) (n : ℕ) (t s : Bool)
-        → bandwidthReading
-        (pick t (RangedLimit.In l) RangedLimit.OutOfRange) (pick s (RangedNumber.In n) RangedNumber.OutOfRange)
-        ≡ pick (t && s) (Reading.Bandwidth l n) Reading.OutOfRange
-    both l n true true = refl
-    both l n true false = refl
-    both l n false true = refl
-    both l n false false = refl
-
-    go : (o : Option Limit) (m : Option ℕ)
-        → bandwidthReading (rangedLimit 1000 1000000000 o) (rangedNumber 1000 1000000 m) ≡ readingOf (bandwidthOf o m)
+    go : (o : Option Limit) (m : Option ℕ) → bandwidthLine (asLimitWord o) (asNumber m) ≡ asLineValue (bandwidthOf o m)
     go none m = refl
-    go (some l) none = none-last l (figureIn 1000 1000000000 l)
-    go (some l) (some n) = both l n (figureIn 1000 1000000000 l) (between 1000 1000000 n)
+    go (some l) none = refl
+    go (some l) (some n) = refl
 
-pub two-words : (s : Setting) (w v : List ℕ) → (s ≡ CpuMax → ⊥) → Reading.Malformed ≡ readingOf (valueOf s (w ∷ v ∷ []))
+sole-limit : (ws : List (List ℕ)) → limitWord (soleWord ws) ≡ oneWord limitWord ws
+unfolding limitWord sameBytes numberWord
+sole-limit ws = sole-read limitWord refl ws
+
+pub maximum-read : (r : Resource) (line w : List ℕ) (l : LimitWord) → w ≡ soleWord (lineWords line) → l ≡ asLimitWord (limitWord w)
+    → limitLine (Maximum r) l ≡ asLineValue (valueOf (Max r) (lineWords line))
 unfolding valueOf
-two-words CpuWeight w v n = refl
-two-words CpuMax w v n = absurd (n refl)
-two-words (Max r) w v n = refl
-
--- ---- a line with no words, or with too many
-
-pub no-words : (s : Setting) (ws : List (List ℕ)) → ws ≡ [] → Reading.Malformed ≡ readingOf (valueOf s ws)
-unfolding valueOf
-no-words s ws e = rw e (go s)
+maximum-read r line w l e f =
+    ap (limitLine (Maximum r)) (f ∙ ap (λ x. asLimitWord (limitWord x)) e ∙ ap asLimitWord (sole-limit (lineWords line)))
+    ∙ go (oneWord limitWord (lineWords line))
   where
-    go : (s : Setting) → Reading.Malformed ≡ readingOf (valueOf s [])
-    go CpuWeight = refl
-    go CpuMax = refl
-    go (Max r) = refl
+    go : (o : Option Limit) → limitLine (Maximum r) (asLimitWord o) ≡ asLineValue (mapped (Maximum r) o)
+    go none = refl
+    go (some m) = refl
 
-pub many-words : (s : Setting) (ws : List (List ℕ)) → 2 < length ws → Reading.Malformed ≡ readingOf (valueOf s ws)
+-- cpu.max with no words, or with too many
+pub no-words : (ws : List (List ℕ)) → ws ≡ [] → LineValue.Malformed ≡ asLineValue (valueOf CpuMax ws)
 unfolding valueOf
-many-words s [] h = absurd (omega arith)
-many-words s (w ∷ []) h = absurd (omega arith)
-many-words s (w ∷ v ∷ []) h = absurd (omega arith)
-many-words CpuWeight (w ∷ v ∷ u ∷ us) h = refl
-many-words CpuMax (w ∷ v ∷ u ∷ us) h = refl
-many-words (Max r) (w ∷ v ∷ u ∷ us) h = refl
+no-words ws e = rw e
+
+pub many-words : (ws : List (List ℕ)) → 2 < length ws → LineValue.Malformed ≡ asLineValue (valueOf CpuMax ws)
+unfolding valueOf
+many-words [] h = absurd (omega arith)
+many-words (w ∷ []) h = absurd (omega arith)
+many-words (w ∷ v ∷ []) h = absurd (omega arith)
+many-words (w ∷ v ∷ u ∷ us) h = refl
+
+-- ---- what an answer says of the value
+
+pub is-malformed : (o : Option SettingValue) → LineValue.Malformed ≡ asLineValue o → known o ≡ false
+is-malformed none e = refl
+is-malformed (some v) e = let z : _≡_ {A = ℕ} 0 1 = cc in absurd (omega arith)
+
+module _ (o : Option SettingValue) (v : SettingValue) (e : LineValue.Of v ≡ asLineValue o) where
+  clipping : (w : SettingValue) × (o ≡ some w) × (v ≡ clipped w)
+  clipping = go o e
+    where
+      go : (x : Option SettingValue) → LineValue.Of v ≡ asLineValue x → (w : SettingValue) × (x ≡ some w) × (v ≡ clipped w)
+      go none f = let z : _≡_ {A = ℕ} 0 1 = cc in absurd (omega arith)
+      go (some w) f = (w, refl, cc)
+
+  pub is-known : known o ≡ true
+  is-known = ap known (clipping .1)
+
+  -- the range of what was read is that of the value
+  pub is-ranged : inRange v ≡ passes o inRange
+  is-ranged = ap inRange (clipping .2) ∙ range-of-clipped (clipping .0) ∙ ap (λ x. passes x inRange) (sym (clipping .1))
+
+  -- and a value in its range is the very value
+  pub is-value : inRange v ≡ true → o ≡ some v
+  is-value h =
+      let w = clipping .0 in
+      let r : inRange w ≡ true = sym (range-of-clipped w) ∙ ap inRange (sym (clipping .2)) ∙ h in
+      clipping .1 ∙ ap some (sym (clipping .2 ∙ clipped-in-range w r))

@@ -51,3 +51,9 @@ SplitAs line Empty = lineWords line ≡ []
 SplitAs line (One p) = OneWord line p
 SplitAs line (Two p q) = TwoWords line p q
 SplitAs line More = 2 < length (lineWords line)
+
+-- the word of a line that has exactly one, else no bytes
+abbrev pub soleWord : List (List ℕ) → List ℕ
+soleWord [] = []
+soleWord (w ∷ []) = w
+soleWord (w ∷ v ∷ vs) = []

@@ -1,11 +1,13 @@
 -- What a reader answers of a number word, whose value may be of any size. Assumes nothing.
-use Prim.Native.Nat.{ℕ, _^_}
+use Prim.Native.Nat.{ℕ, _-_, _^_, min}
 use mathlib.Core.Option.{Option, none, some}
-use lib.Dec.{ltb}
-use Rattle.model.specs.Functions.{pick}
 use Rattle.text.specs.declared.number.Number.{Number}
-use Rattle.text.specs.declared.number.Number.the-variants.{Figure, TooLarge, NotANumber}
+use Rattle.text.specs.declared.number.Number.the-variants.{Figure, NotANumber}
 
-unfoldable pub asNumber : Option ℕ → Number
+-- a figure as 64 bits keep it: one that does not fit is the largest that does
+abbrev pub clip : ℕ → ℕ
+clip n = min n (2 ^ 64 - 1)
+
+abbrev pub asNumber : Option ℕ → Number
 asNumber none = NotANumber
-asNumber (some n) = pick (ltb n (2 ^ 64)) (Figure n) TooLarge
+asNumber (some n) = Figure (clip n)

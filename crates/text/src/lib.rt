@@ -4,5 +4,7 @@ pub mod line; // lines and their words
 pub mod number; // number words
 pub mod name; // the names of controllers, settings and files
 pub mod control; // control lines
-pub mod value; // the values of settings
+pub mod value; // what a line gives a setting
+pub mod range; // the ranges of values
+pub mod amount; // figures of files and amounts of resources
 pub mod write; // decimal text, and its delivery

@@ -2,8 +2,8 @@
 ghost use Prim.Native.Nat.{_≤_};
 ghost use mathlib.Core.Path.{_≡_};
 ghost use lib.ListN.{length};
-ghost use Rattle.model.specs.Text.{sameBytes, tooLong};
-ghost use Rattle.text.specs.Line.{LineEnd, WordEnd, NextWord, SplitAs};
+ghost use Rattle.model.specs.Text.{sameBytes, tooLong, lineWords};
+ghost use Rattle.text.specs.Line.{LineEnd, WordEnd, NextWord, SplitAs, soleWord};
 
 const NEWLINE: u8 = 10;
 
@@ -117,4 +117,17 @@ pub fn split(line: &[u8]) -> Words
         return Words::Two(first, second);
     }
     Words::More
+}
+
+// The word of a line that has exactly one, as a part of the line; else the empty part.
+pub fn sole_word(line: &[u8]) -> &[u8]
+    ensures { λ r. ⌜ now r ≡ soleWord (lineWords (now (line .entry))) ⌝ }
+{
+    let words = split(line);
+    let Words::One(word) = words else {
+        return &line[..0];
+    };
+    let s = word.start;
+    let e = word.end;
+    &line[s..e]
 }

@@ -1,11 +1,11 @@
-// Number words: "one or more decimal digits, leading zeros allowed, any value".
+// Number words: "one or more decimal digits, leading zeros allowed, any value". A figure that does not fit 64 bits is kept as
+// the largest that does, which is outside every range of document 01.
 ghost use mathlib.Core.Path.{_≡_};
 ghost use Rattle.model.specs.Functions.{known};
 ghost use Rattle.model.specs.Text.{numberWord};
 ghost use Rattle.model.specs.Rules.{numberLine};
 ghost use Rattle.text.specs.Number.{asNumber};
-use super::line::Words;
-use super::line::split;
+use super::line::sole_word;
 
 const ZERO: u8 = 48;
 
@@ -16,8 +16,6 @@ const LARGEST: u64 = 18446744073709551615;
 // What a word says as a number.
 pub enum Number {
     Figure(u64),
-    // a number word worth 2^64 or more
-    TooLarge,
     NotANumber,
 }
 
@@ -60,7 +58,7 @@ pub fn read_number(word: &[u8]) -> Number
     while i < word.len() {
         let digit = wide(word[i] - ZERO);
         if value > (LARGEST - digit) / 10 {
-            return Number::TooLarge;
+            return Number::Figure(LARGEST);
         }
         value = value * 10 + digit;
         i += 1;
@@ -72,11 +70,5 @@ pub fn read_number(word: &[u8]) -> Number
 pub fn read_number_line(line: &[u8]) -> Number
     ensures { λ r. ⌜ r ≡ asNumber (numberLine (now (line .entry))) ⌝ }
 {
-    let words = split(line);
-    let Words::One(word) = words else {
-        return Number::NotANumber;
-    };
-    let s = word.start;
-    let e = word.end;
-    read_number(&line[s..e])
+    read_number(sole_word(line))
 }

@@ -1,213 +1,123 @@
-// Values of settings: the form of a line, then its range. A figure of any size is well formed.
-ghost use Prim.Native.Nat.{_≤_};
+// Values of settings: the form of a line. Whether the figures are in their ranges is asked of the value (range.rt), since a
+// malformed word of a line counts before a figure of it that is out of its range. A figure of any size is well formed.
 ghost use mathlib.Core.List.{[], _∷_};
 ghost use mathlib.Core.Path.{_≡_};
-ghost use Rattle.model.specs.Functions.{pick};
-ghost use Rattle.model.specs.Text.{numberWord, lineWords};
-ghost use Rattle.model.specs.Settings.{limitWord, valueOf, between, largest, toPages};
-ghost use Rattle.text.specs.Value.{rangedNumber, rangedLimit, readingOf};
+ghost use Rattle.model.specs.Text.{lineWords};
+ghost use Rattle.model.specs.Settings.{limitWord, valueOf};
+ghost use Rattle.text.specs.Value.{asLimitWord, asLineValue};
 use super::line::Words;
 use super::line::is_same;
+use super::line::sole_word;
 use super::line::split;
 use super::number::Number;
 use super::number::read_number;
+use super::number::read_number_line;
 use model::Limit;
 use model::Resource;
 use model::Setting;
+use model::SettingValue;
 
-// The ranges of document 01, in the files' own figures.
-const LEAST_WEIGHT: u64 = 1;
-
-const LARGEST_WEIGHT: u64 = 10000;
-
-const LEAST_QUOTA: u64 = 1000;
-
-const LARGEST_QUOTA: u64 = 1000000000;
-
-const LEAST_PERIOD: u64 = 1000;
-
-const LARGEST_PERIOD: u64 = 1000000;
-
-const LARGEST_BYTES: u64 = 4503599627370496;
-
-const LARGEST_PROCESSES: u64 = 4194304;
-
-// The bytes of a page: memory.max and memory.current are in bytes.
-pub const PAGE_BYTES: u64 = 4096;
-
-// A number or a limit, read with its range.
-enum RangedNumber {
-    In(u64),
+// What a word says as a limit.
+pub enum LimitWord {
+    Of(Limit),
     Malformed,
-    OutOfRange,
 }
 
-enum RangedLimit {
-    In(Limit),
-    Malformed,
-    OutOfRange,
-}
-
-// What a line gives a setting, in the file's own figures: memory.max in bytes.
-pub enum Reading {
-    Weight(u64),
-    // cpu.max with one word, which leaves the period
-    Quota(Limit),
-    Bandwidth(Limit, u64),
-    Max(Resource, Limit),
+// What a line gives a setting.
+pub enum LineValue {
+    Of(SettingValue),
     // 22: not as many words as the setting takes, or a word of another form
     Malformed,
-    // 34: well formed, and a figure outside its range
-    OutOfRange,
 }
 
-fn within(n: u64, low: u64, high: u64) -> RangedNumber
-    ensures { λ r. ⌜ r ≡ pick (between low high n) (RangedNumber.In n) RangedNumber.OutOfRange ⌝ }
-{
-    if n < low {
-        return RangedNumber::OutOfRange;
-    }
-    if high < n {
-        return RangedNumber::OutOfRange;
-    }
-    RangedNumber::In(n)
-}
-
-fn number_in(word: &[u8], low: u64, high: u64) -> RangedNumber
-    ensures { λ r. ⌜ r ≡ rangedNumber low high (numberWord (now (word .entry))) ⌝ }
-{
-    let number = read_number(word);
-    match number {
-        Number::Figure(n) => within(n, low, high),
-        Number::TooLarge => RangedNumber::OutOfRange,
-        Number::NotANumber => RangedNumber::Malformed,
-    }
-}
-
-fn limit_in(word: &[u8], low: u64, high: u64) -> RangedLimit
-    ensures { λ r. ⌜ r ≡ rangedLimit low high (limitWord (now (word .entry))) ⌝ }
+// "max", or a number word.
+fn read_limit(word: &[u8]) -> LimitWord
+    ensures { λ r. ⌜ r ≡ asLimitWord (limitWord (now (word .entry))) ⌝ }
 {
     if is_same(word, b"max") {
-        return RangedLimit::In(Limit::NoLimit);
+        return LimitWord::Of(Limit::NoLimit);
     }
-    let number = number_in(word, low, high);
-    match number {
-        RangedNumber::In(n) => RangedLimit::In(Limit::Figure(n)),
-        RangedNumber::Malformed => RangedLimit::Malformed,
-        RangedNumber::OutOfRange => RangedLimit::OutOfRange,
-    }
+    let number = read_number(word);
+    let Number::Figure(n) = number else {
+        return LimitWord::Malformed;
+    };
+    LimitWord::Of(Limit::Figure(n))
 }
 
-fn read_weight(word: &[u8]) -> Reading
-    ensures { λ r. ⌜ r ≡ readingOf (valueOf Setting.CpuWeight (now (word .entry) ∷ [])) ⌝ }
+fn read_weight(line: &[u8]) -> LineValue
+    ensures { λ r. ⌜ r ≡ asLineValue (valueOf Setting.CpuWeight (lineWords (now (line .entry)))) ⌝ }
 {
-    let weight = number_in(word, LEAST_WEIGHT, LARGEST_WEIGHT);
-    match weight {
-        RangedNumber::In(n) => Reading::Weight(n),
-        RangedNumber::Malformed => Reading::Malformed,
-        RangedNumber::OutOfRange => Reading::OutOfRange,
-    }
+    let weight = read_number_line(line);
+    let Number::Figure(n) = weight else {
+        return LineValue::Malformed;
+    };
+    LineValue::Of(SettingValue::Weight(n))
 }
 
-fn read_quota(word: &[u8]) -> Reading
-    ensures { λ r. ⌜ r ≡ readingOf (valueOf Setting.CpuMax (now (word .entry) ∷ [])) ⌝ }
+fn read_quota(word: &[u8]) -> LineValue
+    ensures { λ r. ⌜ r ≡ asLineValue (valueOf Setting.CpuMax (now (word .entry) ∷ [])) ⌝ }
 {
-    let quota = limit_in(word, LEAST_QUOTA, LARGEST_QUOTA);
-    match quota {
-        RangedLimit::In(q) => Reading::Quota(q),
-        RangedLimit::Malformed => Reading::Malformed,
-        RangedLimit::OutOfRange => Reading::OutOfRange,
-    }
+    let quota = read_limit(word);
+    let LimitWord::Of(q) = quota else {
+        return LineValue::Malformed;
+    };
+    LineValue::Of(SettingValue::Quota(q))
 }
 
-// A quota and a period: a malformed word of either counts before a figure out of range.
-fn read_bandwidth(first: &[u8], second: &[u8]) -> Reading
-    ensures { λ r. ⌜ r ≡ readingOf (valueOf Setting.CpuMax (now (first .entry) ∷ now (second .entry) ∷ [])) ⌝ }
+fn read_quota_and_period(first: &[u8], second: &[u8]) -> LineValue
+    ensures { λ r. ⌜ r ≡ asLineValue (valueOf Setting.CpuMax (now (first .entry) ∷ now (second .entry) ∷ [])) ⌝ }
 {
-    let quota = limit_in(first, LEAST_QUOTA, LARGEST_QUOTA);
-    let period = number_in(second, LEAST_PERIOD, LARGEST_PERIOD);
-    match quota {
-        RangedLimit::Malformed => Reading::Malformed,
-        RangedLimit::OutOfRange => match period {
-            RangedNumber::Malformed => Reading::Malformed,
-            RangedNumber::OutOfRange => Reading::OutOfRange,
-            RangedNumber::In(_) => Reading::OutOfRange,
-        },
-        RangedLimit::In(q) => match period {
-            RangedNumber::Malformed => Reading::Malformed,
-            RangedNumber::OutOfRange => Reading::OutOfRange,
-            RangedNumber::In(p) => Reading::Bandwidth(q, p),
-        },
-    }
+    let quota = read_limit(first);
+    let LimitWord::Of(q) = quota else {
+        return LineValue::Malformed;
+    };
+    let period = read_number(second);
+    let Number::Figure(p) = period else {
+        return LineValue::Malformed;
+    };
+    LineValue::Of(SettingValue::Bandwidth(q, p))
 }
 
-fn largest_of(resource: Resource) -> u64
-    ensures { λ r. ⌜ r ≡ largest resource ⌝ }
-{
-    match resource {
-        Resource::Pages => LARGEST_BYTES,
-        Resource::Processes => LARGEST_PROCESSES,
-    }
-}
-
-fn read_max(resource: Resource, word: &[u8]) -> Reading
-    ensures { λ r. ⌜ r ≡ readingOf (valueOf (Setting.Max resource) (now (word .entry) ∷ [])) ⌝ }
-{
-    let figure = limit_in(word, 0, largest_of(resource));
-    match figure {
-        RangedLimit::In(l) => Reading::Max(resource, l),
-        RangedLimit::Malformed => Reading::Malformed,
-        RangedLimit::OutOfRange => Reading::OutOfRange,
-    }
-}
-
-fn read_one(setting: Setting, word: &[u8]) -> Reading
-    ensures { λ r. ⌜ r ≡ readingOf (valueOf setting (now (word .entry) ∷ [])) ⌝ }
-{
-    match setting {
-        Setting::CpuWeight => read_weight(word),
-        Setting::CpuMax => read_quota(word),
-        Setting::Max(resource) => read_max(resource, word),
-    }
-}
-
-fn read_two(setting: Setting, first: &[u8], second: &[u8]) -> Reading
-    ensures { λ r. ⌜ r ≡ readingOf (valueOf setting (now (first .entry) ∷ now (second .entry) ∷ [])) ⌝ }
-{
-    match setting {
-        Setting::CpuWeight => Reading::Malformed,
-        Setting::CpuMax => read_bandwidth(first, second),
-        Setting::Max(_) => Reading::Malformed,
-    }
-}
-
-// The value that a line gives a setting: one word, for cpu.max one or two.
-pub fn read_value(setting: Setting, line: &[u8]) -> Reading
-    ensures { λ r. ⌜ r ≡ readingOf (valueOf setting (lineWords (now (line .entry)))) ⌝ }
+// cpu.max: one word or two.
+fn read_bandwidth(line: &[u8]) -> LineValue
+    ensures { λ r. ⌜ r ≡ asLineValue (valueOf Setting.CpuMax (lineWords (now (line .entry)))) ⌝ }
 {
     let words = split(line);
     match words {
-        Words::Empty => Reading::Malformed,
+        Words::Empty => LineValue::Malformed,
         Words::One(word) => {
             let s = word.start;
             let e = word.end;
-            read_one(setting, &line[s..e])
+            read_quota(&line[s..e])
         }
         Words::Two(first, second) => {
             let a = first.start;
             let b = first.end;
             let s = second.start;
             let e = second.end;
-            read_two(setting, &line[a..b], &line[s..e])
+            read_quota_and_period(&line[a..b], &line[s..e])
         }
-        Words::More => Reading::Malformed,
+        Words::More => LineValue::Malformed,
     }
 }
 
-// Bytes in whole pages, rounded up.
-pub fn to_pages(bytes: u64) -> u64
-    requires { ⌜ bytes ≤ largest Resource.Pages ⌝ }
-    ensures { λ r. ⌜ r ≡ toPages bytes ⌝ }
+fn read_maximum(resource: Resource, line: &[u8]) -> LineValue
+    ensures { λ r. ⌜ r ≡ asLineValue (valueOf (Setting.Max resource) (lineWords (now (line .entry)))) ⌝ }
 {
-    (bytes + PAGE_BYTES - 1) / PAGE_BYTES
+    let limit = read_limit(sole_word(line));
+    let LimitWord::Of(l) = limit else {
+        return LineValue::Malformed;
+    };
+    LineValue::Of(SettingValue::Maximum(resource, l))
+}
+
+// The value that a line gives a setting.
+pub fn read_value(setting: Setting, line: &[u8]) -> LineValue
+    ensures { λ r. ⌜ r ≡ asLineValue (valueOf setting (lineWords (now (line .entry)))) ⌝ }
+{
+    match setting {
+        Setting::CpuWeight => read_weight(line),
+        Setting::CpuMax => read_bandwidth(line),
+        Setting::Max(resource) => read_maximum(resource, line),
+    }
 }

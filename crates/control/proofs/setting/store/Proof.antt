@@ -5,8 +5,7 @@ use Rattle.tree.specs.Changes.{GroupRow}
 use Rattle.tree.specs.Layout.{view}
 use Rattle.control.proofs.ValueLaws.{settable-row, figure-in, storable-kept, storable-quota, storable-bandwidth, storable-amount}
 use Rattle.control.proofs.ValueLaws.{weight-written, quota-written, bandwidth-written, limit-written}
-use Rattle.control.proofs.ValueLaws.{malformed-written, out-of-range-written}
-use Rattle.control.proofs.WroteLaws.{wrote-group-as, wrote-none}
+use Rattle.control.proofs.WroteLaws.{wrote-group-as}
 use Rattle.control.proofs.setting.store.Statement.{statement}
 use Rattle.control.proofs.setting.store.Tie as tie
 
@@ -71,12 +70,6 @@ set-limit-requires c κs =
     let m = v .value4 .given in
     (row s, storable-amount (m .0 .0) (m .0 .1 .0) _ (c .stored-limit .ensures) (figure-in _ _ _ (s .pre) _ _ (m .1)))
 
-enum-told : tie.Need-enum-told
-enum-told c = search needs
-
-enum-told-2 : tie.Need-enum-told-2
-enum-told-2 c = search needs
-
 -- cpu.weight
 returns : tie.Need-returns
 returns c =
@@ -119,17 +112,6 @@ returns-4 c =
     (limit-written (group s) _ _ _ _ (v .value4 .given .1) (l .stored-limit .ensures))
     (c .set-limit .ensures)
 
--- nothing to store
-returns-5 : tie.Need-returns-5
-returns-5 c =
-    let s = c .before .before in
-    wrote-none _ _ (row s .long) (malformed-written (group s) _ (c .enum-told .given .1))
-
-returns-6 : tie.Need-returns-6
-returns-6 c =
-    let s = c .before .before in
-    wrote-none _ _ (row s .long) (out-of-range-written (group s) _ (c .enum-told2 .given .1))
-
 pub store-spec : {M : Type 1} → statement M
 store-spec =
     tie.close
@@ -148,11 +130,7 @@ store-spec =
     enum-known-value-4
     stored-limit-requires
     set-limit-requires
-    enum-told
-    enum-told-2
     returns
     returns-2
     returns-3
-    returns-4
-    returns-5
-    returns-6)
+    returns-4)

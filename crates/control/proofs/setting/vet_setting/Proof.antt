@@ -1,25 +1,28 @@
--- `control::setting::vet_setting` meets its contract: each check is made where those before it pass. Assumes nothing.
+-- `control::setting::vet_setting` meets its contract: each check is made where those before it pass, and the checks of the line
+-- are those that are left. Assumes nothing.
 use Prim.Native.Nat.{ℕ}
 use mathlib.Core.Bool.{true}
 use mathlib.Core.List.{List}
 use mathlib.Core.Option.{some}
 use mathlib.Core.Path.{_≡_, refl, ap, sym, _∙_}
 use lib.ListN.{drop}
-use borrow.Author.Needs.{needs}
 use borrow.Author.Tests.{le-leb, lt-leb, not-true, not-false}
+use borrow.Author.Needs.{needs}
 use Rattle.model.specs.Functions.{known, passes}
 use Rattle.model.specs.Checks.{Check}
 use Rattle.model.specs.Names.{settingNamed}
 use Rattle.model.specs.Tree.{Tree, lives, parents}
+use Rattle.model.specs.Hierarchy.{factsOf}
 use Rattle.model.specs.Hierarchy as H
 use Rattle.model.specs.Settings.{settingController}
 use Rattle.model.specs.Rules.{mayWrite}
+use Rattle.model.specs.Calls.{writeSetting, checks, verdict}
 use Rattle.model.proofs.VetLaws.{may-write-parent}
 use Rattle.text.proofs.NameLaws.{is-setting, no-setting}
 use Rattle.tree.specs.Layout.{view}
 use Rattle.tree.proofs.KeptLaws.{live-row, parent-low}
-use Rattle.control.specs.Values.{placeChecks}
-use Rattle.control.proofs.VetLaws.{Passed, begun, not-barred, not-lacking, is-barred, is-lacking, is-done, setting-on}
+use Rattle.control.proofs.VetLaws.{Passed, begun, not-barred, not-lacking, is-barred, is-lacking, setting-on}
+use Rattle.control.proofs.StoredLaws.{gives-setting}
 use Rattle.control.proofs.setting.vet_setting.Statement.{statement}
 use Rattle.control.proofs.setting.vet_setting.Tie as tie
 
@@ -42,12 +45,9 @@ named-at c = c .before .before .before
 abbrev on-at : tie.Else4 → tie.Else3
 on-at c = c .before .before .before
 
-abbrev may-at : tie.Else5 → tie.Else4
-may-at c = c .before .before
-
 -- all the checks, and that the first n pass
 abbrev all : tie.Start → List Check
-all s = placeChecks (view (s .args .t .now)) (s .args .user) (s .args .g .0) (s .args .file .now) (s .args .line .now)
+all s = checks (factsOf (view (s .args .t .now))) (writeSetting (s .args .user) (s .args .g .0) (s .args .file .now) (s .args .line .now))
 
 abbrev Past : ℕ → tie.Start → Type 0
 Past n s = Passed (all s) (drop n (all s))
@@ -59,14 +59,14 @@ abbrev group-of : tie.After-known-told → ℕ
 group-of c = begin c .args .g .0
 
 ranged : (c : tie.Else1) → Past 1 (start c)
-unfolding placeChecks
+unfolding checks
 ranged c = not-barred begun refl (lt-leb _ _ (c .if1 .left))
 
 alive : (c : tie.Else2) → lives (view (start (ranged-at c) .args .t .now)) (start (ranged-at c) .args .g .0) ≡ true
 alive c = sym (c .before .is-live .ensures) ∙ not-false _ (c .if2 .left)
 
 live : (c : tie.Else2) → Past 2 (start (ranged-at c))
-unfolding placeChecks
+unfolding checks
 live c = not-lacking (ranged (ranged-at c)) refl (alive c)
 
 -- the setting of that name
@@ -74,7 +74,7 @@ setting : (c : tie.After-known-told) → settingNamed (begin c .args .file .now)
 setting c = is-setting _ _ (sym (c .before .named .given .1) ∙ c .before .before .before .setting-named .ensures)
 
 named : (c : tie.After-known-told) → Past 3 (begin c)
-unfolding placeChecks
+unfolding checks
 named c = not-lacking (live (live-at c)) refl (ap known (setting c))
 
 on-found : (c : tie.After-is-on) → let n = c .before .before in
@@ -84,7 +84,7 @@ on-found c =
     setting-on (tree-of n) (group-of n) _ _ _ _ (setting n) (c .before .setting-controller .ensures) (c .is-on .ensures)
 
 on : (c : tie.Else3) → Past 4 (begin (named-at c))
-unfolding placeChecks
+unfolding checks
 on c = not-lacking (named (named-at c)) (on-found (c .before)) (not-false _ (c .if3 .left))
 
 may-found : (c : tie.After-may-write) → let n = named-at (c .before .before) in
@@ -94,25 +94,21 @@ may-found c =
     sym (may-write-parent (tree-of n) (begin n .args .user) (group-of n) _ _ _ (c .may-write .ensures) (c .before .parent .ensures) refl)
 
 may : (c : tie.Else4) → Past 5 (begin (named-at (on-at c)))
-unfolding placeChecks
+unfolding checks
 may c = not-lacking (on (on-at c)) (may-found (c .before)) (not-false _ (c .if4 .left))
-
-short : (c : tie.Else5) → Past 6 (begin (named-at (on-at (may-at c))))
-unfolding placeChecks
-short c = not-barred (may (may-at c)) (c .before .is-too-long .ensures) (c .if5 .left)
 
 -- Einval: no group number
 returns : tie.Need-returns
-unfolding placeChecks
-returns c = is-barred begun refl (le-leb _ _ (c .if1 .taken))
+unfolding verdict checks
+returns c = sym (is-barred begun refl (le-leb _ _ (c .if1 .taken)))
 
 is-live-requires : tie.Need-is-live-requires
 is-live-requires c κs = search needs
 
 -- Enoent: not live
 returns-2 : tie.Need-returns-2
-unfolding placeChecks
-returns-2 c = is-lacking (ranged (c .before .before)) (c .before .is-live .ensures) (not-true _ (c .if2 .taken))
+unfolding verdict checks
+returns-2 c = sym (is-lacking (ranged (c .before .before)) (c .before .is-live .ensures) (not-true _ (c .if2 .taken)))
 
 setting-named-requires : tie.Need-setting-named-requires
 setting-named-requires c κs = search needs
@@ -125,12 +121,13 @@ enum-told c = search needs
 
 -- Enoent: no such setting
 returns-3 : tie.Need-returns-3
-unfolding placeChecks
+unfolding verdict checks
 returns-3 c =
     let n = c .before .before in
     let file = start (ranged-at (n .before)) .args .file .now in
-    is-lacking (live (n .before)) refl
-    (ap known (no-setting (settingNamed file) (sym (c .enum-told .given .1) ∙ n .setting-named .ensures)))
+    sym
+    (is-lacking (live (n .before)) refl
+    (ap known (no-setting (settingNamed file) (sym (c .enum-told .given .1) ∙ n .setting-named .ensures))))
 
 setting-controller-requires : tie.Need-setting-controller-requires
 setting-controller-requires c κs = search needs
@@ -142,8 +139,8 @@ is-on-requires c κs =
 
 -- Enoent: its controller is not on
 returns-4 : tie.Need-returns-4
-unfolding placeChecks
-returns-4 c = is-lacking (named (c .before .before .before)) (on-found (c .before)) (not-true _ (c .if3 .taken))
+unfolding verdict checks
+returns-4 c = sym (is-lacking (named (c .before .before .before)) (on-found (c .before)) (not-true _ (c .if3 .taken)))
 
 parent-requires : tie.Need-parent-requires
 parent-requires c κs = search needs
@@ -155,21 +152,19 @@ may-write-requires c κs =
 
 -- Eacces: the parent's owner may, and the group's own may not
 returns-5 : tie.Need-returns-5
-unfolding placeChecks
-returns-5 c = is-lacking (on (c .before .before .before)) (may-found (c .before)) (not-true _ (c .if4 .taken))
+unfolding verdict checks
+returns-5 c = sym (is-lacking (on (c .before .before .before)) (may-found (c .before)) (not-true _ (c .if4 .taken)))
 
-is-too-long-requires : tie.Need-is-too-long-requires
-is-too-long-requires c κs = search needs
+vet-value-requires : tie.Need-vet-value-requires
+vet-value-requires c κs = search needs
 
--- Einval: too long
+-- as the value
 returns-6 : tie.Need-returns-6
-unfolding placeChecks
-returns-6 c = is-barred (may (c .before .before)) (c .before .is-too-long .ensures) (c .if5 .taken)
-
--- done
-returns-7 : tie.Need-returns-7
-unfolding placeChecks
-returns-7 c = is-done (short c)
+returns-6 c =
+    let m = c .before in
+    let n = named-at (on-at m) in
+    gives-setting (tree-of n) (begin n .args .user) (group-of n) (begin n .args .file .now) (begin n .args .line .now) _ (setting n) (may m)
+    (c .vet-value .result) (c .vet-value .ensures)
 
 pub vet-setting-spec : {M : Type 1} → statement M
 vet-setting-spec =
@@ -188,6 +183,5 @@ vet-setting-spec =
     parent-requires
     may-write-requires
     returns-5
-    is-too-long-requires
-    returns-6
-    returns-7)
+    vet-value-requires
+    returns-6)

@@ -1,7 +1,7 @@
 -- `processes::migration::vet_line` meets its contract: what the line's number says decides its checks. Assumes nothing.
 use borrow.Author.Needs.{needs}
 use Rattle.tree.specs.Layout.{view}
-use Rattle.processes.proofs.MigrationLaws.{line-long, line-malformed, line-large, line-figure}
+use Rattle.processes.proofs.MigrationLaws.{line-long, line-malformed, line-figure}
 use Rattle.processes.proofs.migration.vet_line.Statement.{statement}
 use Rattle.processes.proofs.migration.vet_line.Tie as tie
 
@@ -24,10 +24,7 @@ vet-number-requires c κs = search needs
 enum-told : tie.Need-enum-told
 enum-told c = search needs
 
-enum-told-2 : tie.Need-enum-told-2
-enum-told-2 c = search needs
-
--- one number word that fits 64 bits
+-- one number word
 returns-2 : tie.Need-returns-2
 returns-2 c =
     let n = c .before .before in
@@ -36,21 +33,13 @@ returns-2 c =
     let s = l .before .before in
     line-figure (view (s .args .tree .now)) (s .args .line .now) _ (l .is-too-long .ensures) (r .before .if1 .left) _ (r .read-number-line .ensures) _ (n .number .given .1) _ (c .vet-number .ensures)
 
--- 3: one number word that does not
+-- 22: not one number word
 returns-3 : tie.Need-returns-3
 returns-3 c =
     let r = c .before .before in
     let l = r .before .before in
     let s = l .before .before in
-    line-large (view (s .args .tree .now)) (s .args .line .now) _ (l .is-too-long .ensures) (r .before .if1 .left) _ (r .read-number-line .ensures) (c .enum-told .given .1)
-
--- 22: not one number word
-returns-4 : tie.Need-returns-4
-returns-4 c =
-    let r = c .before .before in
-    let l = r .before .before in
-    let s = l .before .before in
-    line-malformed (view (s .args .tree .now)) (s .args .line .now) _ (l .is-too-long .ensures) (r .before .if1 .left) _ (r .read-number-line .ensures) (c .enum-told2 .given .1)
+    line-malformed (view (s .args .tree .now)) (s .args .line .now) _ (l .is-too-long .ensures) (r .before .if1 .left) _ (r .read-number-line .ensures) (c .enum-told .given .1)
 
 pub vet-line-spec : {M : Type 1} → statement M
 vet-line-spec =
@@ -62,7 +51,5 @@ vet-line-spec =
     enum-known-number
     vet-number-requires
     enum-told
-    enum-told-2
     returns-2
-    returns-3
-    returns-4)
+    returns-3)

@@ -1,101 +1,63 @@
--- `text::name::setting_named` meets its contract: a name is tried where the word is none of those before it.
--- Assumes nothing.
+-- `text::name::setting_named` meets its contract: a setting is the file of that name. Assumes nothing.
 use Prim.Native.Nat.{ℕ}
 use mathlib.Core.List.{List}
-use lib.ListN.{drop}
+use mathlib.Core.Option.{some}
+use mathlib.Core.Path.{_≡_, ap, sym, _∙_}
 use borrow.Author.Needs.{needs}
-use Rattle.model.specs.Names.{settingName, settings}
+use Rattle.model.specs.Names.{fileNamed}
 use Rattle.text.specs.Name.{asSettingName}
-use Rattle.text.proofs.NameLaws.{Passed, passed-none, passed, found, found-none}
+use Rattle.text.proofs.NameLaws.{is-file, no-file, valueSetting, setting-unnamed, setting-named, no-value}
 use Rattle.text.proofs.name.setting_named.Statement.{statement}
 use Rattle.text.proofs.name.setting_named.Tie as tie
 
--- the word, at each test that it failed
-abbrev word-1 : tie.Else1 → List ℕ
-word-1 c = c .before .before .before .before .args .file .now
+-- the name, and the file that it names
+abbrev name-of : tie.After-known-told → List ℕ
+name-of k = k .before .before .before .before .before .args .file .now
 
-abbrev word-2 : tie.Else2 → List ℕ
-word-2 c = word-1 (c .before .before .before)
+file-of : (k : tie.After-known-told) → fileNamed (name-of k) ≡ some (k .before .named .given .0 .0)
+file-of k = is-file (fileNamed (name-of k)) _ (sym (k .before .named .given .1) ∙ k .before .before .before .file-named .ensures)
 
-abbrev word-3 : tie.Else3 → List ℕ
-word-3 c = word-2 (c .before .before .before)
+file-named-requires : tie.Need-file-named-requires
+file-named-requires c κs = search needs
 
--- the names that the word is not
-not-weight : (c : tie.Else1) → Passed settingName (word-1 c) settings (drop 1 settings)
-not-weight c = passed passed-none (c .before .is-same .ensures) (c .if1 .left)
+enum-known-named : tie.Need-enum-known-named
+enum-known-named c = search needs
 
-not-cpu-max : (c : tie.Else2) → Passed settingName (word-2 c) settings (drop 2 settings)
-not-cpu-max c = let t = c .before in passed (not-weight (t .before .before)) (t .is-same2 .ensures) (c .if2 .left)
+enum-told : tie.Need-enum-told
+enum-told c = search needs
 
-not-memory-max : (c : tie.Else3) → Passed settingName (word-3 c) settings (drop 3 settings)
-not-memory-max c = let t = c .before in passed (not-cpu-max (t .before .before)) (t .is-same3 .ensures) (c .if3 .left)
-
-slice-aggregate-is-same : tie.Need-slice-aggregate-is-same
-slice-aggregate-is-same c = search needs
-
-is-same-requires : tie.Need-is-same-requires
-is-same-requires c κs = search needs
-
--- cpu.weight
+-- no file
 returns : tie.Need-returns
-returns c = found asSettingName passed-none (c .before .is-same .ensures) (c .if1 .taken)
+returns c =
+    let n = c .before .before in
+    let w = n .before .before .args .file .now in
+    ap asSettingName (setting-unnamed w (no-file (fileNamed w) (sym (c .enum-told .given .1) ∙ n .file-named .ensures)))
 
-slice-aggregate-is-same-2 : tie.Need-slice-aggregate-is-same-2
-slice-aggregate-is-same-2 c = search needs
+enum-known-found : tie.Need-enum-known-found
+enum-known-found c = search needs
 
-is-same-requires-2 : tie.Need-is-same-requires-2
-is-same-requires-2 c κs = search needs
-
--- cpu.max
+-- another file
 returns-2 : tie.Need-returns-2
 returns-2 c =
-    let t = c .before in
-    found asSettingName (not-weight (t .before .before)) (t .is-same2 .ensures) (c .if2 .taken)
+    let k = c .before in
+    let w = name-of k in
+    ap asSettingName (no-value (k .before .named .given .0 .0) (c .match2 .keys2) ∙ setting-named w _ (file-of k))
 
-slice-aggregate-is-same-3 : tie.Need-slice-aggregate-is-same-3
-slice-aggregate-is-same-3 c = search needs
-
-is-same-requires-3 : tie.Need-is-same-requires-3
-is-same-requires-3 c κs = search needs
-
--- memory.max
+-- a setting
 returns-3 : tie.Need-returns-3
 returns-3 c =
-    let t = c .before in
-    found asSettingName (not-cpu-max (t .before .before)) (t .is-same3 .ensures) (c .if3 .taken)
-
-slice-aggregate-is-same-4 : tie.Need-slice-aggregate-is-same-4
-slice-aggregate-is-same-4 c = search needs
-
-is-same-requires-4 : tie.Need-is-same-requires-4
-is-same-requires-4 c κs = search needs
-
--- pids.max
-returns-4 : tie.Need-returns-4
-returns-4 c =
-    let t = c .before in
-    found asSettingName (not-memory-max (t .before .before)) (t .is-same4 .ensures) (c .if4 .taken)
-
--- none of them
-returns-5 : tie.Need-returns-5
-returns-5 c =
-    found-none asSettingName
-    (passed (not-memory-max (c .before .before .before)) (c .before .is-same4 .ensures) (c .if4 .left))
+    let k = c .before .before .before in
+    let w = name-of k in
+    ap asSettingName (ap valueSetting (sym (c .before .found .given .1)) ∙ setting-named w _ (file-of k))
 
 pub setting-named-spec : {M : Type 1} → statement M
 setting-named-spec =
     tie.close
     (tie.spec
-    slice-aggregate-is-same
-    is-same-requires
+    file-named-requires
+    enum-known-named
+    enum-told
     returns
-    slice-aggregate-is-same-2
-    is-same-requires-2
+    enum-known-found
     returns-2
-    slice-aggregate-is-same-3
-    is-same-requires-3
-    returns-3
-    slice-aggregate-is-same-4
-    is-same-requires-4
-    returns-4
-    returns-5)
+    returns-3)

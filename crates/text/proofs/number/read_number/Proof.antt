@@ -55,7 +55,7 @@ wide-requires c κs = search needs
 sub-if2 : tie.Need-sub-if2 Inv-loop μ-loop
 sub-if2 c = omega (arith, is-digit (c .before .before))
 
--- too large
+-- too large: the largest figure
 returns-2 : tie.Need-returns-2 Inv-loop μ-loop
 returns-2 c =
     let w = c .before in

@@ -1,112 +1,124 @@
--- `text::value::read_bandwidth` meets its contract: the limit and the number, each with its range, decide.
--- Assumes nothing.
+-- `text::value::read_bandwidth` meets its contract: the words of the line are the parts that it was split into. Assumes
+-- nothing.
 use Prim.Native.Nat.{ℕ}
-use mathlib.Core.List.{List, [], _∷_}
-use mathlib.Core.Path.{_≡_, refl, sym, _∙_}
+use native.Mathlib.Omega.{arith}
+use mathlib.Core.List.{List}
+use mathlib.Core.Path.{_≡_, subst, ap, sym, _∙_}
 use borrow.Author.Needs.{needs}
 use Rattle.model.specs.Settings.{valueOf}
+use Rattle.model.specs.Text.{lineWords}
 use Rattle.model.specs.declared.Setting.the-variants.{CpuMax}
-use Rattle.text.specs.Value.{readingOf}
-use Rattle.text.specs.declared.value.RangedLimit.{RangedLimit}
-use Rattle.text.specs.declared.value.RangedNumber.{RangedNumber}
-use Rattle.text.proofs.ValueLaws.{bandwidthReading, bandwidth-read}
+use Rattle.text.specs.Line.{OneWord, TwoWords, SplitAs}
+use Rattle.text.specs.Value.{asLineValue}
+use Rattle.text.specs.declared.line.Words.{Words}
+use Rattle.text.specs.declared.value.LineValue.{LineValue}
+use Rattle.text.proofs.ValueLaws.{no-words, many-words}
 use Rattle.text.proofs.value.read_bandwidth.Statement.{statement}
 use Rattle.text.proofs.value.read_bandwidth.Tie as tie
 
--- the words, and the reading by what quota and period were found to be
-abbrev words-of : tie.After-number-in → List (List ℕ)
-words-of n = let a = n .before .before .before .before .args in a .first .now ∷ a .second .now ∷ []
+-- what the split says of the line, by the variant that was matched
+abbrev line-of : tie.After-split → List ℕ
+line-of s = s .before .before .args .line .now
 
-read : (n : tie.After-number-in) {q : RangedLimit} {p : RangedNumber}
-    → n .before .limit-in .result ≡ q → n .number-in .result ≡ p
-    → bandwidthReading q p ≡ readingOf (valueOf CpuMax (words-of n))
-read n e f =
-    let a = n .before .before .before .before .args in
-    bandwidth-read (a .first .now) (a .second .now) _ _
-    (sym e ∙ n .before .limit-in .ensures) (sym f ∙ n .number-in .ensures)
+split-as : (s : tie.After-split) {r : Words} → s .split .result ≡ r → SplitAs (line-of s) r
+split-as s e = subst (λ (w : Words). SplitAs (line-of s) w) e (s .split .ensures)
 
-limit-in-requires : tie.Need-limit-in-requires
-limit-in-requires c κs = search needs
+one-of : (c : tie.After-known-told) → OneWord (line-of (c .before .before .before)) (c .before .words .given .0 .0)
+one-of c = split-as (c .before .before .before) (c .before .words .given .1)
 
-number-in-requires : tie.Need-number-in-requires
-number-in-requires c κs = search needs
+two-of : (c : tie.After-known-told2)
+    → let w = c .before in
+    TwoWords (line-of (w .before .before)) (w .words2 .given .0 .0) (w .words2 .given .0 .1 .0)
+two-of c = split-as (c .before .before .before) (c .before .words2 .given .1)
+
+abbrev reads-as : List (List ℕ) → LineValue
+reads-as ws = asLineValue (valueOf CpuMax ws)
+
+split-requires : tie.Need-split-requires
+split-requires c κs = search needs
 
 enum-told : tie.Need-enum-told
 enum-told c = search needs
 
+enum-known-words : tie.Need-enum-known-words
+enum-known-words c = search needs
+
+sub-read-quota : tie.Need-sub-read-quota
+sub-read-quota c = omega (arith, one-of c)
+
+part-read-quota-start : tie.Need-part-read-quota-start
+part-read-quota-start c = omega (arith, one-of c)
+
+part-read-quota-end : tie.Need-part-read-quota-end
+part-read-quota-end c = omega (arith, one-of c)
+
+read-quota-requires : tie.Need-read-quota-requires
+read-quota-requires c κs = search needs
+
+enum-known-words-2 : tie.Need-enum-known-words-2
+enum-known-words-2 c = search needs
+
+sub-read-quota-and-period : tie.Need-sub-read-quota-and-period
+sub-read-quota-and-period c = omega (arith, two-of c)
+
+part-read-quota-and-period-start : tie.Need-part-read-quota-and-period-start
+part-read-quota-and-period-start c = omega (arith, two-of c)
+
+part-read-quota-and-period-end : tie.Need-part-read-quota-and-period-end
+part-read-quota-and-period-end c = omega (arith, two-of c)
+
+sub-read-quota-and-period-2 : tie.Need-sub-read-quota-and-period-2
+sub-read-quota-and-period-2 c = omega (arith, two-of (c .before))
+
+part-read-quota-and-period-start-2 : tie.Need-part-read-quota-and-period-start-2
+part-read-quota-and-period-start-2 c = omega (arith, two-of (c .before))
+
+part-read-quota-and-period-end-2 : tie.Need-part-read-quota-and-period-end-2
+part-read-quota-and-period-end-2 c = omega (arith, two-of (c .before))
+
+read-quota-and-period-requires : tie.Need-read-quota-and-period-requires
+read-quota-and-period-requires c κs = search needs
+
 enum-told-2 : tie.Need-enum-told-2
 enum-told-2 c = search needs
 
-enum-told-3 : tie.Need-enum-told-3
-enum-told-3 c = search needs
-
-enum-told-4 : tie.Need-enum-told-4
-enum-told-4 c = search needs
-
-enum-told-5 : tie.Need-enum-told-5
-enum-told-5 c = search needs
-
-enum-known-quota : tie.Need-enum-known-quota
-enum-known-quota c = search needs
-
-enum-told-6 : tie.Need-enum-told-6
-enum-told-6 c = search needs
-
-enum-told-7 : tie.Need-enum-told-7
-enum-told-7 c = search needs
-
-enum-known-period : tie.Need-enum-known-period
-enum-known-period c = search needs
-
--- the quota is malformed
+-- no word
 returns : tie.Need-returns
-returns c = read (c .before .before) (c .enum-told .given .1) refl
+returns c = no-words _ (split-as (c .before .before) (c .enum-told .given .1))
 
--- the quota is out of its range
+-- one word
 returns-2 : tie.Need-returns-2
-returns-2 c = let o = c .before .before in read (o .before .before) (o .enum-told2 .given .1) (c .enum-told3 .given .1)
+returns-2 c = let o = c .before .before in c .read-quota .ensures ∙ ap reads-as (sym (one-of o .words-are))
 
+-- two words
 returns-3 : tie.Need-returns-3
-returns-3 c = let o = c .before .before in read (o .before .before) (o .enum-told2 .given .1) (c .enum-told4 .given .1)
+returns-3 c = let t = c .before .before .before in c .read-quota-and-period .ensures ∙ ap reads-as (sym (two-of t .words-are))
 
+-- more than two
 returns-4 : tie.Need-returns-4
-returns-4 c = let o = c .before .before in read (o .before .before) (o .enum-told2 .given .1) (c .enum-told5 .given .1)
-
--- the quota is in its range
-returns-5 : tie.Need-returns-5
-returns-5 c =
-    let q = c .before .before .before in
-    read (q .before .before) (q .quota .given .1) (c .enum-told6 .given .1)
-
-returns-6 : tie.Need-returns-6
-returns-6 c =
-    let q = c .before .before .before in
-    read (q .before .before) (q .quota .given .1) (c .enum-told7 .given .1)
-
-returns-7 : tie.Need-returns-7
-returns-7 c =
-    let q = c .before .before .before .before in
-    read (q .before .before) (q .quota .given .1) (c .before .period .given .1)
+returns-4 c = let s = c .before .before in many-words (lineWords (line-of s)) (split-as s (c .enum-told2 .given .1))
 
 pub read-bandwidth-spec : {M : Type 1} → statement M
 read-bandwidth-spec =
     tie.close
     (tie.spec
-    limit-in-requires
-    number-in-requires
+    split-requires
     enum-told
+    enum-known-words
+    sub-read-quota
+    part-read-quota-start
+    part-read-quota-end
+    read-quota-requires
+    enum-known-words-2
+    sub-read-quota-and-period
+    part-read-quota-and-period-start
+    part-read-quota-and-period-end
+    sub-read-quota-and-period-2
+    part-read-quota-and-period-start-2
+    part-read-quota-and-period-end-2
+    read-quota-and-period-requires
     enum-told-2
-    enum-told-3
-    enum-told-4
-    enum-told-5
-    enum-known-quota
-    enum-told-6
-    enum-told-7
-    enum-known-period
     returns
     returns-2
     returns-3
-    returns-4
-    returns-5
-    returns-6
-    returns-7)
+    returns-4)

@@ -1,12 +1,12 @@
--- `text::value::read_quota` meets its contract: the limit with its range decides. Assumes nothing.
+-- `text::value::read_quota` meets its contract: the limit decides. Assumes nothing.
 use mathlib.Core.Path.{sym, _∙_}
 use borrow.Author.Needs.{needs}
 use Rattle.text.proofs.ValueLaws.{quota-read}
 use Rattle.text.proofs.value.read_quota.Statement.{statement}
 use Rattle.text.proofs.value.read_quota.Tie as tie
 
-limit-in-requires : tie.Need-limit-in-requires
-limit-in-requires c κs = search needs
+read-limit-requires : tie.Need-read-limit-requires
+read-limit-requires c κs = search needs
 
 enum-known-quota : tie.Need-enum-known-quota
 enum-known-quota c = search needs
@@ -14,25 +14,16 @@ enum-known-quota c = search needs
 enum-told : tie.Need-enum-told
 enum-told c = search needs
 
-enum-told-2 : tie.Need-enum-told-2
-enum-told-2 c = search needs
-
 returns : tie.Need-returns
 returns c =
-    let n = c .before .before .before in
-    quota-read (n .before .before .args .word .now) _ (sym (c .before .quota .given .1) ∙ n .limit-in .ensures)
+    let n = c .before .before in
+    quota-read (n .before .before .args .word .now) _ (sym (c .enum-told .given .1) ∙ n .read-limit .ensures)
 
 returns-2 : tie.Need-returns-2
 returns-2 c =
-    let n = c .before .before in
-    quota-read (n .before .before .args .word .now) _ (sym (c .enum-told .given .1) ∙ n .limit-in .ensures)
-
-returns-3 : tie.Need-returns-3
-returns-3 c =
-    let n = c .before .before in
-    quota-read (n .before .before .args .word .now) _ (sym (c .enum-told2 .given .1) ∙ n .limit-in .ensures)
+    let n = c .before .before .before in
+    quota-read (n .before .before .args .word .now) _ (sym (c .before .quota .given .1) ∙ n .read-limit .ensures)
 
 pub read-quota-spec : {M : Type 1} → statement M
 read-quota-spec =
-    tie.close
-    (tie.spec limit-in-requires enum-known-quota enum-told enum-told-2 returns returns-2 returns-3)
+    tie.close (tie.spec read-limit-requires enum-known-quota enum-told returns returns-2)

@@ -1,11 +1,11 @@
--- `files::value::to_figure` meets its contract. Assumes nothing.
+-- `text::amount::to_figure` meets its contract. Assumes nothing.
 use native.Mathlib.Omega.{arith}
 use mathlib.Core.Path.{ap, sym}
 use borrow.Author.Needs.{needs}
 use Rattle.model.specs.Settings.{toFigure}
 use Rattle.model.specs.declared.Resource.{Resource}
-use Rattle.files.proofs.value.to_figure.Statement.{statement}
-use Rattle.files.proofs.value.to_figure.Tie as tie
+use Rattle.text.proofs.amount.to_figure.Statement.{statement}
+use Rattle.text.proofs.amount.to_figure.Tie as tie
 
 enum-told : tie.Need-enum-told
 enum-told c = search needs

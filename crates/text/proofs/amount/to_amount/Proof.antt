@@ -1,10 +1,10 @@
--- `control::setting::amount_of` meets its contract: by the resource. Assumes nothing.
+-- `text::amount::to_amount` meets its contract: by the resource. Assumes nothing.
 use native.Mathlib.Omega.{arith}
 use mathlib.Core.Path.{ap, sym, _∙_}
 use borrow.Author.Needs.{needs}
 use Rattle.model.specs.Settings.{largest, toAmount}
-use Rattle.control.proofs.setting.amount_of.Statement.{statement}
-use Rattle.control.proofs.setting.amount_of.Tie as tie
+use Rattle.text.proofs.amount.to_amount.Statement.{statement}
+use Rattle.text.proofs.amount.to_amount.Tie as tie
 
 enum-told : tie.Need-enum-told
 enum-told c = search needs
@@ -24,5 +24,5 @@ returns c =
 returns-2 : tie.Need-returns-2
 returns-2 c = search needs
 
-pub amount-of-spec : {M : Type 1} → statement M
-amount-of-spec = tie.close (tie.spec enum-told to-pages-requires enum-told-2 returns returns-2)
+pub to-amount-spec : {M : Type 1} → statement M
+to-amount-spec = tie.close (tie.spec enum-told to-pages-requires enum-told-2 returns returns-2)

@@ -1,12 +1,12 @@
--- `files::value::shown_limit` meets its contract: a figure in its range fits when it is shown. Assumes nothing.
+-- `text::amount::shown_limit` meets its contract: a figure in its range fits when it is shown. Assumes nothing.
 use native.Mathlib.Omega.{arith}
 use mathlib.Core.Path.{ap, sym, _∙_}
 use borrow.Author.Needs.{needs}
 use Rattle.model.specs.Settings.{toFigure, mapLimit}
 use Rattle.model.specs.declared.Limit.{Limit}
-use Rattle.files.proofs.ValueTextLaws.{figure-in-range}
-use Rattle.files.proofs.value.shown_limit.Statement.{statement}
-use Rattle.files.proofs.value.shown_limit.Tie as tie
+use Rattle.text.proofs.AmountLaws.{figure-in-range}
+use Rattle.text.proofs.amount.shown_limit.Statement.{statement}
+use Rattle.text.proofs.amount.shown_limit.Tie as tie
 
 enum-known-l : tie.Need-enum-known-l
 enum-known-l c = search needs

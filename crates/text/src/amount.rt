@@ -1,0 +1,62 @@
+// Figures of a resource's files and amounts of the resource, both ways: memory.max and memory.current are in bytes and
+// the tree counts pages; pids.max and pids.current count processes as the tree does.
+ghost use Prim.Native.Nat.{_<_, _≤_};
+ghost use mathlib.Core.Bool.{true};
+ghost use mathlib.Core.Path.{_≡_};
+ghost use Rattle.model.specs.Settings.{figureIn, largest, toPages, toAmount, toFigure, mapLimit};
+use model::Limit;
+use model::Resource;
+
+const PAGE_BYTES: u64 = 4096;
+
+// Bytes in whole pages, rounded up.
+fn to_pages(bytes: u64) -> u64
+    requires { ⌜ bytes ≤ largest Resource.Pages ⌝ }
+    ensures { λ r. ⌜ r ≡ toPages bytes ⌝ }
+{
+    (bytes + PAGE_BYTES - 1) / PAGE_BYTES
+}
+
+// A figure of the file as an amount.
+fn to_amount(r: Resource, n: u64) -> u64
+    requires { ⌜ n ≤ largest r ⌝ }
+    ensures { λ m. ⌜ m ≡ toAmount r n ⌝ }
+{
+    match r {
+        Resource::Pages => to_pages(n),
+        Resource::Processes => n,
+    }
+}
+
+// An amount as the files show it.
+pub fn to_figure(r: Resource, n: u64) -> u64
+    requires { ⌜ toFigure r n < 18446744073709551616 ⌝ }
+    ensures { λ k. ⌜ k ≡ toFigure r n ⌝ }
+{
+    match r {
+        Resource::Pages => n * PAGE_BYTES,
+        Resource::Processes => n,
+    }
+}
+
+// A limit of the file as the tree keeps it.
+pub fn stored_limit(r: Resource, l: Limit) -> Limit
+    requires { ⌜ figureIn 0 (largest r) l ≡ true ⌝ }
+    ensures { λ m. ⌜ m ≡ mapLimit (toAmount r) l ⌝ }
+{
+    let Limit::Figure(n) = l else {
+        return Limit::NoLimit;
+    };
+    Limit::Figure(to_amount(r, n))
+}
+
+// A limit of the tree as the file shows it.
+pub fn shown_limit(r: Resource, l: Limit) -> Limit
+    requires { ⌜ figureIn 0 (largest r) (mapLimit (toFigure r) l) ≡ true ⌝ }
+    ensures { λ k. ⌜ k ≡ mapLimit (toFigure r) l ⌝ }
+{
+    let Limit::Figure(n) = l else {
+        return Limit::NoLimit;
+    };
+    Limit::Figure(to_figure(r, n))
+}
