@@ -3,7 +3,7 @@ ghost use mathlib.Core.Option.{some};
 ghost use Rattle.model.specs.Text.{lineWords};
 ghost use Rattle.model.specs.Settings.{valueOf};
 ghost use Rattle.model.specs.Checks.{first};
-ghost use Rattle.model.specs.Calls.{lineValue, writeSetting};
+ghost use Rattle.model.specs.Calls.{lineValue, verdict, writeSetting};
 ghost use Rattle.model.specs.Effects.{written};
 ghost use Rattle.tree.specs.Layout.{view};
 ghost use Rattle.tree.specs.Changes.{Wrote};
