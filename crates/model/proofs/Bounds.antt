@@ -25,14 +25,14 @@ use Rattle.model.specs.declared.Resource.the-variants.{Pages, Processes}
 use Rattle.model.specs.declared.Limit.{Limit}
 use Rattle.model.specs.declared.Limit.the-variants.{NoLimit, Figure}
 use Rattle.model.specs.declared.SettingValue.{SettingValue}
-use Rattle.model.proofs.FunctionLaws.{split, whether, upd-same, upd-other, upd-map, upd-keeps, upd-all, weigh-yes, weigh-no}
+use Rattle.model.proofs.FunctionLaws.{split, whether, upd-same, upd-other, upd-map, upd-keeps, upd-all, weigh-yes}
 use Rattle.model.proofs.ChainLaws.{inside-live, inside-root}
 use Rattle.model.proofs.AmountLaws.{place-live, place-free, usage-same, usage-after-charge, population-after-birth, amount-after-make, amount-after-remove}
 use Rattle.model.proofs.RuleLaws.{untaken-process}
 use Rattle.model.proofs.RoomLaws.{room-on-chain, root-limit-none, own-limit-holds, over-figure, no-figure}
-use Rattle.model.proofs.Preservation.{usage-after-patch, cores-after-remove}
+use Rattle.model.proofs.Preservation.{cores-after-remove}
 use Rattle.model.proofs.ControlPreservation.{amount-after-control}
-use Rattle.model.proofs.Changes.{WritesSetting, Flowed, still, came, went, RoomAbove, Altering, Making, Removing, Change, nothing, placed, altered, made, removal, control}
+use Rattle.model.proofs.Changes.{WritesSetting, Altering, usage-altered, Making, Removing, Change, nothing, placed, altered, made, removal, control}
 use Rattle.model.proofs.Steps.{process-lives, change}
 use Rattle.model.proofs.Books.{cores-after-control, bookWith, booked}
 
@@ -120,14 +120,6 @@ module _ (t : Tree) (w : WellFormed t) where
   limited-live g l e =
       split (lives t g) (λ y. y) (λ n. no-figure _ l (ap (λ x. x .core .limit Pages) (w .blank .freeGroup g n)) e)
 
-  -- own pages come only where there is room for them
-  bound-inside : {c : Call} (g a l b : ℕ) {n m : ℕ} → Flowed c Pages (RoomAbove t g) n m → inside (parents t) a g ≡ true
-      → t .group a .core .limit Pages ≡ Figure l → b + n ≡ usage (cores t) a + m → (b ≤ usage (cores t) a) ⊎ (b ≤ l)
-  bound-inside g a l b (still f e) i k h = inl (omega arith)
-  bound-inside g a l b (came x f e room) i k h =
-      inr (omega (arith, over-figure _ l _ (own-limit-holds t w Pages a (usage (cores t) a + x) (limited-live a l k) (room a i)) k))
-  bound-inside g a l b (went x f e) i k h = inl (omega arith)
-
   limited-altered : {c : Call} (g : ℕ) (v : Group) → Altering t c g v → v .core .limit Pages ≡ t .group g .core .limit Pages
       → Limited t (atGroup t g v)
   limited-altered g v k same =
@@ -136,11 +128,9 @@ module _ (t : Tree) (w : WellFormed t) where
       record {
         kept = kept;
         bound = λ a l e.
-            let u = usage-after-patch t w g v (k .patch) a in
-            split (inside (parents t) a g)
-            (λ i. bound-inside g a l _ (k .pages) i (kept a l e)
-            (omega (arith, u, weigh-yes _ (t .group g .core .own) i, weigh-yes _ (v .core .own) i)))
-            (λ i. inl (omega (arith, u, weigh-no _ (t .group g .core .own) i, weigh-no _ (v .core .own) i)));
+            ⊎-elim (λ x. inl x)
+            (λ x. inr (over-figure _ l _ (own-limit-holds t w Pages a _ (limited-live a l (kept a l e)) x) (kept a l e)))
+            (usage-altered t w g v k a);
       }
 
   limited-made : (user parent new : ℕ) → Making t user parent new → Limited t (atGroup t new (newGroup parent (suc (depths t parent)) user))

@@ -1,11 +1,11 @@
 -- What an accepted call may do to a tree: one of six changes, each with what the laws about all calls need to know of it. Whatever
 -- is said of every call goes by these six and not by the calls, so that a call that makes no new kind of change costs one clause,
 -- that of `change` in Steps.antt. Assumes nothing.
-use Prim.Native.Nat.{ℕ, suc, _+_, _<_}
+use Prim.Native.Nat.{ℕ, suc, _+_, _≤_, _<_}
 use native.Mathlib.Omega.{arith}
 use mathlib.Core.Bool.{true, false}
 use mathlib.Core.List.{List}
-use mathlib.Core.Logic.{_≢_, _⊎_, ⊎-elim}
+use mathlib.Core.Logic.{_≢_, _⊎_, inl, inr, ⊎-elim}
 use mathlib.Core.Path.{_≡_, ap, sym, _∙_}
 use Rattle.model.specs.Sizes.{groups, processes, deepest}
 use Rattle.model.specs.Tree.{Tree, Group, Process, nowhere, at, isLive, noProcess, processTaken, newGroup, atGroup, atProcess, cores, lives, parents, depths, owners, sets, places}
@@ -14,13 +14,14 @@ use Rattle.model.specs.Rooms.{over, actingLimit}
 use Rattle.model.specs.Rules.{mayWrite, lineProcess, leaving}
 use Rattle.model.specs.Calls.{Call}
 use Rattle.model.specs.Effects.{removed, newSet, controlled}
+use Rattle.model.specs.WellFormed.{WellFormed}
 use Rattle.model.specs.Totals.{Flow, flow}
 use Rattle.model.specs.declared.Resource.{Resource}
 use Rattle.model.specs.declared.Resource.the-variants.{Pages, Processes}
 use Rattle.model.specs.declared.Controller.{Controller}
-use Rattle.model.proofs.FunctionLaws.{clash}
+use Rattle.model.proofs.FunctionLaws.{split, clash, weigh-yes, weigh-no}
 use Rattle.model.proofs.RuleLaws.{NoChild}
-use Rattle.model.proofs.Preservation.{Patch}
+use Rattle.model.proofs.Preservation.{Patch, usage-after-patch}
 use Rattle.model.proofs.ControlPreservation.{Control}
 
 -- The calls that the demands single out: a write of cgroup.procs that names p, a hand over, a write of a setting.
@@ -83,6 +84,24 @@ pub record Altering (t : Tree) (c : Call) (g : ℕ) (v : Group) : Type 0 where
   pub owner : (v .owner ≡ owners t g) ⊎ Gives c g (v .owner)
   pub pages : Flowed c Pages (RoomAbove t g) (t .group g .core .own) (v .core .own)
   pub limit : (v .core .limit Pages ≡ t .group g .core .limit Pages) ⊎ WritesSetting c
+
+-- no group holds more pages than before, but where it has room for what it holds
+pub usage-altered : (t : Tree) → WellFormed t → {c : Call} (g : ℕ) (v : Group) → Altering t c g v → (a : ℕ)
+    → (usage (cores (atGroup t g v)) a ≤ usage (cores t) a) ⊎ (over (usage (cores (atGroup t g v)) a) (actingLimit t Pages a) ≡ false)
+usage-altered t w {c} g v k a =
+    let u = usage-after-patch t w g v (k .patch) a in
+    split (inside (parents t) a g)
+    (λ i. above i (k .pages) (omega (arith, u, weigh-yes _ (t .group g .core .own) i, weigh-yes _ (v .core .own) i)))
+    (λ i. inl (omega (arith, u, weigh-no _ (t .group g .core .own) i, weigh-no _ (v .core .own) i)))
+  where
+    above : inside (parents t) a g ≡ true → {n m : ℕ} → Flowed c Pages (RoomAbove t g) n m
+        → usage (cores (atGroup t g v)) a + n ≡ usage (cores t) a + m
+        → (usage (cores (atGroup t g v)) a ≤ usage (cores t) a) ⊎ (over (usage (cores (atGroup t g v)) a) (actingLimit t Pages a) ≡ false)
+    above i (still f e) h = inl (omega arith)
+    above i (came x f e room) h =
+        let s : usage (cores (atGroup t g v)) a ≡ usage (cores t) a + x = omega arith in
+        inr (rw s (room a i))
+    above i (went x f e) h = inl (omega arith)
 
 -- a group that is made with a free number, under one that its maker may write
 pub record Making (t : Tree) (user parent new : ℕ) : Type 0 where

@@ -28,7 +28,6 @@ pub record Patch (t : Tree) (g : ℕ) (v : Group) : Type 0 where
   pub owner : g ≡ 0 → v .owner ≡ 0
   pub defaults : (c : Controller) → onIn (parents t) (sets t) c g ≡ false → AtDefault c (settingsOf v)
   pub ranges : Allowed (settingsOf v)
-  pub fits : usage (upd (cores t) g (v .core)) 0 ≤ t .machine
 
 -- usage after it: own pages before it and after it, in every group that it is inside
 pub usage-after-patch : (t : Tree) → WellFormed t → (g : ℕ) (v : Group) → Patch t g v → (a : ℕ)
@@ -73,8 +72,8 @@ module _ (t : Tree) (w : WellFormed t) where
     same-set : sets (atGroup t g v) ≡ sets t
     same-set = part-same (λ x. x .set) (k .set)
 
-    pub well-formed-after-patch : WellFormed (atGroup t g v)
-    well-formed-after-patch =
+    pub well-formed-after-patch : usage (cores (atGroup t g v)) 0 ≤ t .machine → WellFormed (atGroup t g v)
+    well-formed-after-patch fits =
         record {
           sound = sound-eq same-live same-parent (part-same (λ x. x .depth) (k .depth)) (w .sound);
           placed = placed-eq same-live refl (w .placed);
@@ -92,11 +91,7 @@ module _ (t : Tree) (w : WellFormed t) where
                 freeProcess = w .blank .freeProcess;
               };
           owned = upd-all (λ j x. j ≡ 0 → x .owner ≡ 0) (t .group) g v (k .owner) (λ j _ z. rw z (w .owned)) 0 refl;
-          sized =
-              record {
-                size = w .sized .size;
-                fits = rw (upd-map (λ x. x .core) (t .group) g v) (k .fits);
-              };
+          sized = record { size = w .sized .size; fits = fits };
         }
 
   -- A process put somewhere, or nowhere.

@@ -1,27 +1,26 @@
 -- Every accepted call makes one of the changes of Changes.antt: `change` is the one place where each call's checks meet its
 -- effect. So it leaves a well-formed tree well formed, and every tree that calls can reach is. Assumes nothing.
-use Prim.Native.Nat.{ℕ, _+_, _≤_}
+use Prim.Native.Nat.{ℕ, _+_, _-_, _≤_}
 use native.Mathlib.Omega.{arith}
 use mathlib.Core.Bool.{true, false, not, _&&_}
 use mathlib.Core.List.{List, [], _∷_}
-use mathlib.Core.Logic.{_≢_, inl, inr}
+use mathlib.Core.Logic.{_≢_, inl, inr, ⊎-elim}
 use mathlib.Core.Option.{Option, none, some}
 use mathlib.Core.Path.{_≡_, refl, ap, sym}
 use lib.Dec.{eqb}
 use borrow.Author.Tests.{eqb-false, eq-eqb, ne-eqb, leb-false, ltb-false, not-false}
-use Rattle.model.specs.Functions.{upd, passes, known}
+use Rattle.model.specs.Functions.{passes, known}
 use Rattle.model.specs.Sizes.{groups, processes}
 use Rattle.model.specs.Checks.{Pass}
-use Rattle.model.specs.Tree.{Tree, Core, Group, at, isLive, groupOf, noProcess, settingsOf, cores, lives, parents, depths, sets, settingsAt, places}
-use Rattle.model.specs.Hierarchy.{on, onIn, childOf, headcount, ownPages, usage, factsOf}
+use Rattle.model.specs.Tree.{Tree, Group, at, isLive, groupOf, noProcess, settingsOf, atGroup, cores, lives, parents, depths, sets, settingsAt, places}
+use Rattle.model.specs.Hierarchy.{on, onIn, childOf, headcount, usage, factsOf}
 use Rattle.model.specs.Control.{asked, isWanted, anyController}
 use Rattle.model.specs.Settings.{settingController, inRange, valueOf}
 use Rattle.model.specs.Text.{lineWords}
-use Rattle.model.specs.Rooms.{over, actingLimit}
 use Rattle.model.specs.Names.{settingNamed}
 use Rattle.model.specs.Rules.{available, standsIn, processGroup, hasChild, hasProcess, heldByChild, lineProcess, joining, leaving}
 use Rattle.model.specs.Calls.{Call, settingValue, lineValue, chargeChecks, forkChecks, checks, verdict}
-use Rattle.model.specs.Effects.{charged, uncharged, newSet, written, effect, step, run}
+use Rattle.model.specs.Effects.{newSet, written, effect, step, run}
 use Rattle.model.specs.WellFormed.{WellFormed}
 use Rattle.model.specs.declared.Resource.the-variants.{Pages}
 use Rattle.model.specs.declared.Controller.{Controller}
@@ -30,10 +29,9 @@ use Rattle.model.specs.declared.SettingValue.{SettingValue}
 use Rattle.model.specs.declared.Errno.{Errno}
 use Rattle.model.specs.declared.Answer.{Answer}
 use Rattle.model.specs.declared.Answer.the-variants.{Done, Refused}
-use Rattle.model.proofs.FunctionLaws.{split, clash, and-false, upd-keeps, any-none, weigh-yes}
+use Rattle.model.proofs.FunctionLaws.{split, clash, and-false, any-none}
 use Rattle.model.proofs.CheckLaws.{first-pass}
-use Rattle.model.proofs.ChainLaws.{root-inside}
-use Rattle.model.proofs.AmountLaws.{place-live, place-free, usage-same, usage-after-charge, usage-after-release}
+use Rattle.model.proofs.AmountLaws.{place-live, place-free}
 use Rattle.model.proofs.ControlLaws.{any-controller-none, set-after-true, join-none, leave-true}
 use Rattle.model.proofs.PartLaws.{default-new, default-after-put}
 use Rattle.model.proofs.AllowedLaws.{allowed-new, allowed-after-put}
@@ -42,7 +40,7 @@ use Rattle.model.proofs.RuleLaws.{NoChild, untaken-group, untaken-proce
 use Rattle.model.proofs.Preservation.{Patch, well-formed-after-patch, well-formed-after-place, well-formed-after-make, well-formed-after-remove}
 use Rattle.model.proofs.ControlPreservation.{child-of, Control, well-formed-after-control}
 use Rattle.model.proofs.SettingPreservation.{part-written}
-use Rattle.model.proofs.Changes.{still, came, went, place-stands, place-blank, RoomAbove, Change, nothing, placed, altered, made, removal, control}
+use Rattle.model.proofs.Changes.{still, came, went, place-stands, place-blank, usage-altered, Change, nothing, placed, altered, made, removal, control}
 
 -- A step by its verdict.
 pub step-accepted : (t : Tree) (c : Call) → verdict t c ≡ Done → step t c ≡ effect t c
@@ -91,8 +89,8 @@ module _ (t : Tree) (w : WellFormed t) where
 
   -- a group with other settings, owner or own pages; the settings' rules hold where they are as before
   patch-same : (g : ℕ) (v : Group) → lives t g ≡ true → v .core .live ≡ true → v .core .parent ≡ parents t g → v .depth ≡ depths t g → v .set ≡ sets t g
-      → (g ≡ 0 → v .owner ≡ 0) → settingsOf v ≡ settingsAt t g → usage (upd (cores t) g (v .core)) 0 ≤ t .machine → Patch t g v
-  patch-same g v l a b c d o e f =
+      → (g ≡ 0 → v .owner ≡ 0) → settingsOf v ≡ settingsAt t g → Patch t g v
+  patch-same g v l a b c d o e =
       record {
         alive = l;
         live = a;
@@ -102,16 +100,10 @@ module _ (t : Tree) (w : WellFormed t) where
         owner = o;
         defaults = λ x h. rw e (w .defaults .off x g l h);
         ranges = rw e (w .ranges .within g l);
-        fits = f;
       }
 
   root-owner : (g : ℕ) → g ≡ 0 → t .group g .owner ≡ 0
   root-owner g e = rw e (w .owned)
-
-  -- own pages as before
-  same-pages : (g : ℕ) (v : Core) → v .parent ≡ parents t g → ownPages v ≡ ownPages (cores t g) → usage (upd (cores t) g v) 0 ≤ t .machine
-  same-pages g v e f =
-      rw (usage-same (cores t) (upd (cores t) g v) (upd-keeps (λ c. c .parent) (cores t) g v e) (upd-keeps ownPages (cores t) g v f) 0) (w .sized .fits)
 
   -- a controller that is off, where a setting's controller is on
   controller-apart : (s : Setting) (c : Controller) (g : ℕ) → onIn (parents t) (sets t) (settingController s) g ≡ true
@@ -133,7 +125,6 @@ module _ (t : Tree) (w : WellFormed t) where
         defaults =
             λ c h. default-after-put s ws v c (settingsAt t g) e (controller-apart s c g o h) (w .defaults .off c g l h);
         ranges = allowed-after-put v (settingsAt t g) r (w .ranges .within g l);
-        fits = same-pages g _ refl refl;
       }
 
   kept-setting : (g : ℕ) (named : Option Setting) (line : List ℕ) → lives t g ≡ true → passes named (λ s. on t (settingController s) g) ≡ true
@@ -184,23 +175,6 @@ module _ (t : Tree) (w : WellFormed t) where
           reset = λ c y n. leave-true (sets t g c) (asked line c) y n;
         }
 
-  -- own pages charged or released
-  module _ (g : ℕ) (l : lives t g ≡ true) where
-    kept-charge : (n : ℕ) → over (usage (cores t) 0 + n) (actingLimit t Pages 0) ≡ false → Patch t g (charged n (t .group g))
-    kept-charge n o =
-        patch-same g _ l l refl refl refl (root-owner g) refl
-        (omega (
-          arith,
-          over-figure _ (t .machine) _ o (machine-acts t),
-          usage-after-charge (cores t) g n (w .sound .range g l) l 0,
-          weigh-yes _ n (root-inside (w .sound) g l),
-        ))
-
-    kept-release : (n : ℕ) → n ≤ t .group g .core .own → Patch t g (uncharged n (t .group g))
-    kept-release n h =
-        patch-same g _ l l refl refl refl (root-owner g) refl
-        (omega (arith, usage-after-release (cores t) g n (w .sound .range g l) l h 0, w .sized .fits))
-
 -- Every accepted call makes one of the six changes.
 pub change : (t : Tree) (c : Call) → WellFormed t → Pass (checks (factsOf t) c) → Change t c (effect t c)
 unfolding effect checks Pass chargeChecks forkChecks
@@ -225,7 +199,7 @@ change t (Call.handOver user g owner) w k =
     let l : lives t g ≡ true = (search) in
     altered g _
     (record {
-      patch = patch-same t w g _ l l refl refl refl (λ e. absurd (eqb-false g 0 (search) e)) refl (same-pages t w g _ refl refl);
+      patch = patch-same t w g _ l l refl refl refl (λ e. absurd (eqb-false g 0 (search) e)) refl;
       owner = inr (record { giver = user; call = refl });
       pages = still refl refl;
       limit = inl refl;
@@ -286,18 +260,23 @@ change t (Call.exit p) w k =
 change t (Call.charge p n) w k =
     let g : ℕ = processGroup t p in
     let l : lives t g ≡ true = process-lives t w p (search) in
-    let r : RoomAbove t g n = room-on-chain (factsOf t) Pages n g (search) in
     altered g _
     (record {
-      patch = kept-charge t w g l n (r 0 (root-inside (w .sound) g l));
+      patch = patch-same t w g _ l l refl refl refl (root-owner t w g) refl;
       owner = inl refl;
-      pages = came n refl refl r;
+      pages = came n refl refl (room-on-chain (factsOf t) Pages n g (search));
       limit = inl refl;
     })
 change t (Call.release g n) w k =
-    let h : n ≤ t .group g .core .own = omega (arith, ltb-false) in
+    let l : lives t g ≡ true = (search) in
+    let h : t .group g .core .own - n + n ≡ t .group g .core .own = omega (arith, ltb-false) in
     altered g _
-    (record { patch = kept-release t w g (search) n h; owner = inl refl; pages = went n refl (omega arith); limit = inl refl })
+    (record {
+      patch = patch-same t w g _ l l refl refl refl (root-owner t w g) refl;
+      owner = inl refl;
+      pages = went n refl h;
+      limit = inl refl;
+    })
 change t (Call.read g file buffer) w k = nothing refl
 change t (Call.membership p buffer) w k = nothing refl
 
@@ -305,7 +284,12 @@ well-formed-change : (t : Tree) {c : Call} {u : Tree} → WellFormed t → Chang
 well-formed-change t w (nothing f) = w
 well-formed-change t w (placed p v k) =
     well-formed-after-place t w p v (k .number) (λ h e. (place-stands k h e .0, k .low)) (λ h e. place-stands k h e .1) (place-blank k)
-well-formed-change t w (altered g v k) = well-formed-after-patch t w g v (k .patch)
+well-formed-change t w (altered g v k) =
+    well-formed-after-patch t w g v (k .patch)
+    (⊎-elim
+    (λ (x : usage (cores (atGroup t g v)) 0 ≤ usage (cores t) 0). omega (arith, w .sized .fits))
+    (λ x. over-figure _ (t .machine) _ x (machine-acts t))
+    (usage-altered t w g v k 0))
 well-formed-change t w (made user parent new f k) =
     well-formed-after-make t w parent new user (k .above) (k .dead) (k .low) (k .shallow) default-new allowed-new
 well-formed-change t w (removal g f k) = well-formed-after-remove t w g (k .alive) (k .inner) (k .noChild) (k .noProcess)
