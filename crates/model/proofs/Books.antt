@@ -9,7 +9,7 @@ use mathlib.Core.Option.{Option, none, some}
 use mathlib.Core.Path.{_≡_, refl, ap, ap₂, sym, _∙_, fun-ext, subst}
 use Rattle.model.specs.Functions.{upd, pick}
 use Rattle.model.specs.Checks.{errnoNumber, answerNumber, first, Check}
-use Rattle.model.specs.Tree.{Tree, Core, Settings, settingsOf, controllerOf, withLimits, withSettings, noGroup, atGroup, cores, parents, sets, settingsAt, places}
+use Rattle.model.specs.Tree.{Tree, Core, Group, Process, Settings, settingsOf, controllerOf, withLimits, withSettings, noGroup, atGroup, atProcess, cores, parents, sets, settingsAt, places}
 use Rattle.model.specs.Hierarchy.{childOf, usage, factsOf}
 use Rattle.model.specs.Control.{asked, isDropped}
 use Rattle.model.specs.Settings.{put, reset}
@@ -176,18 +176,23 @@ quietly : (t : Tree) (c : Call) → ((mark : ℕ → ℕ) → enter (bookWith t 
     → ((mark : ℕ → ℕ) → Same (effect t c) (enter (bookWith t mark) c)) → Booked t c
 quietly t c m s = record { same = s; marks = inl m }
 
+cores-put : (t : Tree) (g : ℕ) (v : Group) → cores (atGroup t g v) ≡ upd (cores t) g (v .core)
+cores-put t g v = upd-map (λ x. x .core) (t .group) g v
+
+places-put : (t : Tree) (p : ℕ) (v : Process) → places (atProcess t p v) ≡ upd (places t) p (v .place)
+places-put t p v = upd-map (λ x. x .place) (t .process) p v
+
 pub booked : (t : Tree) (c : Call) → WellFormed t → Booked t c
 unfolding effect enter
 booked t (Call.make user parent new) w =
-    quietly t _ (λ _. refl) (λ _. record { machine = refl; groups = upd-map (λ x. x .core) (t .group) new _; places = refl })
+    quietly t _ (λ _. refl) (λ _. record { machine = refl; groups = cores-put t new _; places = refl })
 booked t (Call.remove user g) w =
     quietly t _ (λ _. refl) (λ _. record { machine = refl; groups = cores-after-remove t g; places = refl })
 booked t (Call.handOver user g owner) w =
     quietly t _ (λ _. refl)
     (λ _. record { machine = refl; groups = fun-ext (upd-keeps (λ x. x .core) (t .group) g _ refl); places = refl })
 booked t (Call.writeProcs user g line) w =
-    quietly t _ (λ _. refl)
-    (λ _. record { machine = refl; groups = refl; places = upd-map (λ x. x .place) (t .process) (lineProcess line) _ })
+    quietly t _ (λ _. refl) (λ _. record { machine = refl; groups = refl; places = places-put t (lineProcess line) _ })
 booked t (Call.writeControl user g line) w =
     quietly t _ (λ _. refl) (λ _. record { machine = refl; groups = fun-ext (cores-after-control t w g line); places = refl })
 booked t (Call.writeSetting user g file line) w =
@@ -195,17 +200,12 @@ booked t (Call.writeSetting user g file line) w =
       same = λ mark. same-after-value t mark g (lineValue file line);
       marks = inr (record { user = user; group = g; file = file; line = line; call = refl });
     }
-booked t (Call.admit p user) w =
-    quietly t _ (λ _. refl) (λ _. record { machine = refl; groups = refl; places = upd-map (λ x. x .place) (t .process) p _ })
-booked t (Call.fork p new) w =
-    quietly t _ (λ _. refl) (λ _. record { machine = refl; groups = refl; places = upd-map (λ x. x .place) (t .process) new _ })
-booked t (Call.exit p) w =
-    quietly t _ (λ _. refl) (λ _. record { machine = refl; groups = refl; places = upd-map (λ x. x .place) (t .process) p _ })
+booked t (Call.admit p user) w = quietly t _ (λ _. refl) (λ _. record { machine = refl; groups = refl; places = places-put t p _ })
+booked t (Call.fork p new) w = quietly t _ (λ _. refl) (λ _. record { machine = refl; groups = refl; places = places-put t new _ })
+booked t (Call.exit p) w = quietly t _ (λ _. refl) (λ _. record { machine = refl; groups = refl; places = places-put t p _ })
 booked t (Call.charge p n) w =
-    quietly t _ (λ _. refl)
-    (λ _. record { machine = refl; groups = upd-map (λ x. x .core) (t .group) (processGroup t p) _; places = refl })
-booked t (Call.release g n) w =
-    quietly t _ (λ _. refl) (λ _. record { machine = refl; groups = upd-map (λ x. x .core) (t .group) g _; places = refl })
+    quietly t _ (λ _. refl) (λ _. record { machine = refl; groups = cores-put t (processGroup t p) _; places = refl })
+booked t (Call.release g n) w = quietly t _ (λ _. refl) (λ _. record { machine = refl; groups = cores-put t g _; places = refl })
 booked t (Call.read g file buffer) w = quietly t _ (λ _. refl) (λ _. record { machine = refl; groups = refl; places = refl })
 booked t (Call.membership p buffer) w = quietly t _ (λ _. refl) (λ _. record { machine = refl; groups = refl; places = refl })
 

@@ -12,7 +12,7 @@ use borrow.Author.Tests.{eqb-false, eq-eqb, ne-eqb, leb-false, ltb-false, not-fa
 use Rattle.model.specs.Functions.{passes, known}
 use Rattle.model.specs.Sizes.{groups, processes}
 use Rattle.model.specs.Checks.{Pass}
-use Rattle.model.specs.Tree.{Tree, Group, at, isLive, groupOf, noProcess, settingsOf, atGroup, cores, lives, parents, depths, sets, settingsAt, places}
+use Rattle.model.specs.Tree.{Tree, at, isLive, groupOf, noProcess, withOwn, withCore, withOwner, atGroup, cores, lives, parents, sets, settingsAt, places}
 use Rattle.model.specs.Hierarchy.{on, onIn, childOf, headcount, usage, factsOf}
 use Rattle.model.specs.Control.{asked, isWanted, anyController}
 use Rattle.model.specs.Settings.{settingController, inRange, valueOf}
@@ -87,19 +87,18 @@ module _ (t : Tree) (w : WellFormed t) where
   pub process-number : (p : ℕ) → isLive (places t p) ≡ true → p ≢ 0
   process-number p l e = clash (isLive (places t p)) l (rw e (ap isLive (w .placed .none)))
 
-  -- a group with other settings, owner or own pages; the settings' rules hold where they are as before
-  patch-same : (g : ℕ) (v : Group) → lives t g ≡ true → v .core .live ≡ true → v .core .parent ≡ parents t g → v .depth ≡ depths t g → v .set ≡ sets t g
-      → (g ≡ 0 → v .owner ≡ 0) → settingsOf v ≡ settingsAt t g → Patch t g v
-  patch-same g v l a b c d o e =
+  -- a group with another owner or other own pages
+  patch-same : (g o n : ℕ) → lives t g ≡ true → (g ≡ 0 → o ≡ 0) → Patch t g (withOwner o (withCore (withOwn n (cores t g)) (t .group g)))
+  patch-same g o n l z =
       record {
         alive = l;
-        live = a;
-        parent = b;
-        depth = c;
-        set = d;
-        owner = o;
-        defaults = λ x h. rw e (w .defaults .off x g l h);
-        ranges = rw e (w .ranges .within g l);
+        live = l;
+        parent = refl;
+        depth = refl;
+        set = refl;
+        owner = z;
+        defaults = λ x h. w .defaults .off x g l h;
+        ranges = w .ranges .within g l;
       }
 
   root-owner : (g : ℕ) → g ≡ 0 → t .group g .owner ≡ 0
@@ -189,17 +188,12 @@ change t (Call.make user parent new) w k =
     })
 change t (Call.remove user g) w k =
     removal g refl
-    (record {
-      alive = (search);
-      inner = eqb-false g 0 (search);
-      noChild = no-child t w g (search);
-      noProcess = no-process t w g (search);
-    })
+    (record { alive = (search); inner = eqb-false g 0 (search); noChild = no-child t w g (search); noProcess = no-process t w g (search) })
 change t (Call.handOver user g owner) w k =
     let l : lives t g ≡ true = (search) in
     altered g _
     (record {
-      patch = patch-same t w g _ l l refl refl refl (λ e. absurd (eqb-false g 0 (search) e)) refl;
+      patch = patch-same t w g owner _ l (λ e. absurd (eqb-false g 0 (search) e));
       owner = inr (record { giver = user; call = refl });
       pages = still refl refl;
       limit = inl refl;
@@ -262,7 +256,7 @@ change t (Call.charge p n) w k =
     let l : lives t g ≡ true = process-lives t w p (search) in
     altered g _
     (record {
-      patch = patch-same t w g _ l l refl refl refl (root-owner t w g) refl;
+      patch = patch-same t w g _ _ l (root-owner t w g);
       owner = inl refl;
       pages = came n refl refl (room-on-chain (factsOf t) Pages n g (search));
       limit = inl refl;
@@ -271,12 +265,7 @@ change t (Call.release g n) w k =
     let l : lives t g ≡ true = (search) in
     let h : t .group g .core .own - n + n ≡ t .group g .core .own = omega (arith, ltb-false) in
     altered g _
-    (record {
-      patch = patch-same t w g _ l l refl refl refl (root-owner t w g) refl;
-      owner = inl refl;
-      pages = went n refl h;
-      limit = inl refl;
-    })
+    (record { patch = patch-same t w g _ _ l (root-owner t w g); owner = inl refl; pages = went n refl h; limit = inl refl })
 change t (Call.read g file buffer) w k = nothing refl
 change t (Call.membership p buffer) w k = nothing refl
 
