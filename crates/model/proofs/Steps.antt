@@ -237,7 +237,7 @@ change t (Call.fork p new) w k =
     (record {
       number = eqb-false new 0 (search);
       low = omega (arith, leb-false);
-      stands = inr (record { group = processGroup t p; here = here; alive = process-lives t w p (search); quiet = w .quiet .empty p _ here });
+      stands = inr (record { group = _; here = here; alive = process-lives t w p (search); quiet = w .quiet .empty p _ here });
       moved = λ g h was e. clash (isLive (places t new)) (rw was) free;
       heads = came 1 refl (rw (place-free (places t new) free, here) (omega arith)) tt;
     })
