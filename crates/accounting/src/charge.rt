@@ -14,7 +14,7 @@ use model::ProcessId;
 use model::Resource;
 use model::RoomAnswer;
 use tree::chain::chain_of;
-use tree::counter::Room;
+use tree::counter::Search;
 use tree::counter::first_full;
 use tree::layout::PROCESSES;
 use tree::layout::Tree;
@@ -55,8 +55,8 @@ pub fn charge(tree: &mut Tree, process: ProcessId, pages: u64) -> RoomAnswer
     let chain = chain_of(tree, group);
     let found = first_full(tree, chain, Resource::Pages, pages);
     let count = match found {
-        Room::Fits(count) => count,
-        Room::Full(stop, place) => return RoomAnswer::NoRoom(stop, place),
+        Search::Fits(count) => count,
+        Search::Full(stop, place) => return RoomAnswer::NoRoom(stop, place),
     };
     adjust_pages(tree, group, pages, 0);
     RoomAnswer::Granted(count)

@@ -20,7 +20,7 @@ use Rattle.model.specs.declared.Resource.the-variants.{Pages, Processes}
 use Rattle.model.specs.declared.Limit.the-variants.{NoLimit}
 use Rattle.model.proofs.FunctionLaws.{split, whether, upd-same, upd-other, upd-keeps}
 use Rattle.model.proofs.ControlPreservation.{child-live, reset-child, reset-other}
-use Rattle.tree.specs.Layout.{words, view}
+use Rattle.tree.specs.Layout.{treeWords, view}
 use Rattle.tree.specs.Changes.{Wrote, controlsSet}
 use Rattle.tree.specs.Kept.{Kept}
 use Rattle.control.specs.Flags.{flagOf}
@@ -66,7 +66,7 @@ reset-each gone v = ap (λ l. withSettings (record { limit = l; cpu = pick (gone
     go Processes = refl
 
 module _ (xs : List ℕ) (g k : ℕ) (gone : Flags) where
-  pub wrote-no-child : length xs ≡ words → childOf g k (cores (view xs) k) ≡ false
+  pub wrote-no-child : length xs ≡ treeWords → childOf g k (cores (view xs) k) ≡ false
       → Wrote xs xs (changedAt (view xs) k (resetChild (view xs) g (flagOf gone) k))
   wrote-no-child l n = wrote-none xs k l (sym (reset-other (view xs) g (flagOf gone) k (view xs .group k) n))
 
@@ -103,7 +103,7 @@ module _ (xs : List ℕ) (g : ℕ) (gone : Controls) where
   abbrev passed-if : ℕ → Bool → Group
   passed-if k b = pick b (after k) (view xs .group k)
 
-  pub reset-start : length xs ≡ words → Wrote xs xs (resetBelow (view xs) g gone 0)
+  pub reset-start : length xs ≡ treeWords → Wrote xs xs (resetBelow (view xs) g gone 0)
   reset-start l =
       let same : (k : ℕ) → view xs .group k ≡ passed-if k (ltb k 0) = (λ k. sym (ap (passed-if k) (le-ltb k 0 (omega arith)))) in
       record { long = l; tree = same-groups (view xs) same; sums = λ c h. refl; spare = λ s. s }

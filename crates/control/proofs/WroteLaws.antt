@@ -6,7 +6,7 @@ use lib.ListN.{length}
 use Rattle.model.specs.Functions.{upd}
 use Rattle.model.specs.Tree.{Tree, Group, atGroup}
 use Rattle.model.proofs.FunctionLaws.{whether, upd-same, upd-other, upd-id}
-use Rattle.tree.specs.Layout.{words, view}
+use Rattle.tree.specs.Layout.{treeWords, view}
 use Rattle.tree.specs.Changes.{Wrote}
 use Rattle.control.specs.Stores.{withGroups, changedAt}
 
@@ -30,7 +30,7 @@ module _ (xs : List ℕ) (k : ℕ) where
   wrote-group-as e p = wrote-as (ap (atGroup (view xs) k) e) p
 
   -- a group that stays as it is
-  pub wrote-none : length xs ≡ words → {v : Group} → view xs .group k ≡ v → Wrote xs xs (atGroup (view xs) k v)
+  pub wrote-none : length xs ≡ treeWords → {v : Group} → view xs .group k ≡ v → Wrote xs xs (atGroup (view xs) k v)
   wrote-none l {v} e =
       let same : view xs .group ≡ upd (view xs .group) k v = sym (upd-id (view xs .group) k) ∙ ap (upd (view xs .group) k) e in
       record { long = l; tree = ap (withGroups (view xs)) same; sums = λ c g. refl; spare = λ s. s }

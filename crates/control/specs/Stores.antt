@@ -11,7 +11,7 @@ use Rattle.model.specs.Tree.{Tree, Group, Controls, defaultCpu, withSettings, w
 use Rattle.model.specs.Effects.{resetChild}
 use Rattle.model.specs.declared.Resource.{Resource}
 use Rattle.model.specs.declared.Limit.the-variants.{NoLimit}
-use Rattle.tree.specs.Layout.{words, view}
+use Rattle.tree.specs.Layout.{treeWords, view}
 
 -- other groups, and all else as in t
 abbrev pub withGroups : Tree → (ℕ → Group) → Tree
@@ -31,7 +31,7 @@ limitReset r gone v =
 
 -- words whose live groups have numbers in range
 pub record Ranged (xs : List ℕ) : Type 0 where
-  pub long : length xs ≡ words
+  pub long : length xs ≡ treeWords
   pub range : (k : ℕ) → lives (view xs) k ≡ true → k < groups
 
 -- the settings of what is gone from g reset in all its children

@@ -3,4 +3,4 @@ pub mod PathLaws
 pub mod NameLineLaws
 pub mod ListingLaws
 pub mod ValueTextLaws
-pub mod ReadingLaws
+pub mod DeliveryLaws

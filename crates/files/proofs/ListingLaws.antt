@@ -13,8 +13,8 @@ use Rattle.model.specs.Text.{ended, decimal}
 use Rattle.model.specs.Rules.{standsIn}
 use Rattle.model.specs.Files.{processLines}
 use Rattle.model.proofs.DecimalLaws.{length-decimal}
-use Rattle.text.specs.Write.{Wrote}
-use Rattle.files.specs.Reading.{longestText}
+use Rattle.text.specs.Write.{Appended}
+use Rattle.files.specs.Texts.{longestText}
 use Rattle.files.proofs.WrittenLaws.{wrote-inside}
 
 pub length-process : (p : ℕ) → p < processes → length (decimal p) ≤ 3
@@ -53,7 +53,7 @@ module _ (place : ℕ → Place) (g : ℕ) where
       pub listing-room : longestText ≤ length new → at + length (decimal p) + 1 ≤ length new
       listing-room r = omega (arith, l .short, length-process p h)
 
-      pub listing-line : (out : List ℕ) (k : ℕ) → standsIn (place p) g ≡ true → Wrote new at (ended (decimal p)) out k
+      pub listing-line : (out : List ℕ) (k : ℕ) → standsIn (place p) g ≡ true → Appended new at (ended (decimal p)) out k
           → Listing place g out k (p + 1)
       listing-line out k e w =
           record {
@@ -74,7 +74,7 @@ module _ (place : ℕ → Place) (g : ℕ) where
             text = rw (left, left-none p (processes - (p + 1)) e, ← add-one p) at (l .text);
           }
 
-    pub listing-end : processes ≤ p → (old : List ℕ) → Wrote old 0 (processLines place g 0 processes) new at
+    pub listing-end : processes ≤ p → (old : List ℕ) → Appended old 0 (processLines place g 0 processes) new at
     listing-end h old =
         let z : processes - p ≡ 0 = omega arith in
         let t : take at new ≡ processLines place g 0 processes =

@@ -19,7 +19,7 @@ use Rattle.model.proofs.DecimalLaws.{length-decimal}
 use Rattle.model.proofs.AmountLaws.{place-live}
 use Rattle.tree.specs.Layout.{view}
 use Rattle.tree.specs.Kept.{Kept, KeptAt}
-use Rattle.files.specs.Reading.{longestPath, placePath, HasPath}
+use Rattle.files.specs.Texts.{longestPath, placePath, HasPath}
 
 path-root : (up : ℕ → ℕ) (n g : ℕ) → g ≡ 0 → path up n g ≡ []
 unfolding path

@@ -6,11 +6,11 @@ use mathlib.Core.List.{List, [], append-nil}
 use mathlib.Core.Path.{sym, ap}
 use lib.ListN.{length, take, length-append, length-take}
 use lib.Seq.{length-take-le}
-use Rattle.text.specs.Write.{Wrote}
+use Rattle.text.specs.Write.{Appended}
 
-pub wrote-nothing : (l : List ℕ) (i : ℕ) → Wrote l i [] l i
+pub wrote-nothing : (l : List ℕ) (i : ℕ) → Appended l i [] l i
 wrote-nothing l i = record { end = omega arith; front = sym (append-nil (take i l)) }
 
-pub wrote-inside : {a b s : List ℕ} {i k : ℕ} → i ≤ length a → Wrote a i s b k → k ≤ length b
+pub wrote-inside : {a b s : List ℕ} {i k : ℕ} → i ≤ length a → Appended a i s b k → k ≤ length b
 wrote-inside {a} {b} {s} {i} {k} h w =
     omega (arith, ap length (w .front), length-take k b, length-append (take i a) s, length-take-le i a h, w .end)

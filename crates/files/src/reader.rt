@@ -3,12 +3,12 @@ ghost use mathlib.Core.Path.{_≡_};
 ghost use Rattle.model.specs.Hierarchy.{factsOf};
 ghost use Rattle.model.specs.Files.{isPresent, contents};
 ghost use Rattle.model.specs.Calls.{read, membership};
-ghost use Rattle.text.specs.Write.{Wrote};
+ghost use Rattle.text.specs.Write.{Appended};
 ghost use Rattle.tree.specs.Layout.{view};
 ghost use Rattle.tree.specs.Counters.{HasParent};
 ghost use Rattle.tree.specs.Kept.{Kept};
 ghost use Rattle.tree.specs.Calling.{Delivering};
-ghost use Rattle.files.specs.Reading.{Ready};
+ghost use Rattle.files.specs.Texts.{Ready};
 use super::list::put_controllers;
 use super::list::put_procs;
 use super::list::put_subtree_control;
@@ -57,7 +57,7 @@ fn is_present(t: &Tree, g: GroupId, file: File) -> bool
 // The text of a file.
 fn render(t: &Tree, g: GroupId, file: File, out: &mut [u8]) -> usize
     requires { ⌜ Ready (now t) (g .0) (now out) ⌝ }
-    ensures { λ r. ⌜ Wrote (now (out .entry)) 0 (contents (factsOf (view (now (t .entry)))) (g .0) file) (now (out .exit)) r ⌝ }
+    ensures { λ r. ⌜ Appended (now (out .entry)) 0 (contents (factsOf (view (now (t .entry)))) (g .0) file) (now (out .exit)) r ⌝ }
 {
     match file {
         File::Procs => put_procs(t, g, out),

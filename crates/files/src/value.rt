@@ -8,9 +8,9 @@ ghost use Rattle.model.specs.Settings.{limitText, valueText};
 ghost use Rattle.model.specs.Files.{contents};
 ghost use Rattle.model.specs.declared.File.{File};
 ghost use Rattle.model.specs.declared.SettingValue.{SettingValue};
-ghost use Rattle.text.specs.Write.{Wrote};
+ghost use Rattle.text.specs.Write.{Appended};
 ghost use Rattle.tree.specs.Layout.{view};
-ghost use Rattle.files.specs.Reading.{Ready};
+ghost use Rattle.files.specs.Texts.{Ready};
 use super::list::put_line;
 use model::GroupId;
 use model::Limit;
@@ -32,7 +32,7 @@ use tree::sum::sum;
 // Whether a live process is inside the group.
 pub fn put_events(t: &Tree, g: GroupId, out: &mut [u8]) -> usize
     requires { ⌜ Ready (now t) (g .0) (now out) ⌝ }
-    ensures { λ r. ⌜ Wrote (now (out .entry)) 0 (contents (factsOf (view (now (t .entry)))) (g .0) File.Events) (now (out .exit)) r ⌝ }
+    ensures { λ r. ⌜ Appended (now (out .entry)) 0 (contents (factsOf (view (now (t .entry)))) (g .0) File.Events) (now (out .exit)) r ⌝ }
 {
     if sum(t, g, Counter::Of(Resource::Processes)) == 0 {
         return put_text(out, 0, b"populated 0\n");
@@ -43,7 +43,7 @@ pub fn put_events(t: &Tree, g: GroupId, out: &mut [u8]) -> usize
 // What stands inside the group.
 pub fn put_current(t: &Tree, g: GroupId, s: Resource, out: &mut [u8]) -> usize
     requires { ⌜ Ready (now t) (g .0) (now out) ⌝ }
-    ensures { λ r. ⌜ Wrote (now (out .entry)) 0 (contents (factsOf (view (now (t .entry)))) (g .0) (File.Current s)) (now (out .exit)) r ⌝ }
+    ensures { λ r. ⌜ Appended (now (out .entry)) 0 (contents (factsOf (view (now (t .entry)))) (g .0) (File.Current s)) (now (out .exit)) r ⌝ }
 {
     let figure = to_figure(s, sum(t, g, Counter::Of(s)));
     put_line(out, 0, figure)
@@ -52,7 +52,7 @@ pub fn put_current(t: &Tree, g: GroupId, s: Resource, out: &mut [u8]) -> usize
 // Both words of cpu.max, one space between.
 fn put_bandwidth(out: &mut [u8], quota: Limit, period: u64) -> usize
     requires { ⌜ length (ended (valueText (SettingValue.Bandwidth quota period))) ≤ length (now out) ⌝ }
-    ensures { λ r. ⌜ Wrote (now (out .entry)) 0 (ended (valueText (SettingValue.Bandwidth quota period))) (now (out .exit)) r ⌝ }
+    ensures { λ r. ⌜ Appended (now (out .entry)) 0 (ended (valueText (SettingValue.Bandwidth quota period))) (now (out .exit)) r ⌝ }
 {
     let word = put_limit(out, 0, quota);
     let space = put_byte(out, word, b' ');
@@ -61,7 +61,7 @@ fn put_bandwidth(out: &mut [u8], quota: Limit, period: u64) -> usize
 
 fn put_limit_line(out: &mut [u8], limit: Limit) -> usize
     requires { ⌜ length (ended (limitText limit)) ≤ length (now out) ⌝ }
-    ensures { λ r. ⌜ Wrote (now (out .entry)) 0 (ended (limitText limit)) (now (out .exit)) r ⌝ }
+    ensures { λ r. ⌜ Appended (now (out .entry)) 0 (ended (limitText limit)) (now (out .exit)) r ⌝ }
 {
     let end = put_limit(out, 0, limit);
     put_byte(out, end, 10)
@@ -70,7 +70,7 @@ fn put_limit_line(out: &mut [u8], limit: Limit) -> usize
 // The whole text of a settings file.
 pub fn put_setting(t: &Tree, g: GroupId, s: Setting, out: &mut [u8]) -> usize
     requires { ⌜ Ready (now t) (g .0) (now out) ⌝ }
-    ensures { λ r. ⌜ Wrote (now (out .entry)) 0 (contents (factsOf (view (now (t .entry)))) (g .0) (File.Value s)) (now (out .exit)) r ⌝ }
+    ensures { λ r. ⌜ Appended (now (out .entry)) 0 (contents (factsOf (view (now (t .entry)))) (g .0) (File.Value s)) (now (out .exit)) r ⌝ }
 {
     match s {
         Setting::CpuWeight => put_line(out, 0, weight(t, g)),

@@ -20,7 +20,7 @@ use Rattle.model.specs.declared.Answer.the-variants.{Done}
 use Rattle.model.proofs.FunctionLaws.{upd-map, weigh-yes, weigh-zero}
 use Rattle.model.proofs.AmountLaws.{place-live, place-free, population-change}
 use Rattle.model.proofs.ProcessLaws.{process-range}
-use Rattle.tree.specs.Layout.{words, view, sumIn, Spare}
+use Rattle.tree.specs.Layout.{treeWords, view, sumIn, Spare}
 use Rattle.tree.specs.Changes.{Wrote, Adjusted}
 use Rattle.tree.specs.Counters.{Adjustable}
 use Rattle.tree.specs.Kept.{countOf, Kept}
@@ -47,7 +47,7 @@ counted-within t p a low l i =
 
 -- the sums of processes after one left `from` and came to `to`; all else is as it was
 pub record Recounted (xs ys : List ℕ) (from to : Place) : Type 0 where
-  pub long : length ys ≡ words
+  pub long : length ys ≡ treeWords
   pub tree : view ys ≡ view xs
   pub processes : (a : ℕ) → sumIn ys (Of Processes) a + counted (view xs) from a ≡ sumIn xs (Of Processes) a + counted (view xs) to a
   pub other : (c : Counter) → c ≢ Of Processes → (a : ℕ) → sumIn ys c a ≡ sumIn xs c a

@@ -15,7 +15,7 @@ use model::ProcessId;
 use model::Resource;
 use model::RoomAnswer;
 use tree::chain::chain_of;
-use tree::counter::Room;
+use tree::counter::Search;
 use tree::counter::first_full;
 use tree::layout::PROCESSES;
 use tree::layout::Tree;
@@ -91,8 +91,8 @@ pub fn fork(tree: &mut Tree, parent: ProcessId, new: ProcessId) -> RoomAnswer
     let chain = chain_of(tree, group);
     let found = first_full(tree, chain, Resource::Processes, 1);
     let count = match found {
-        Room::Fits(count) => count,
-        Room::Full(stop, place) => return RoomAnswer::NoRoom(stop, place),
+        Search::Fits(count) => count,
+        Search::Full(stop, place) => return RoomAnswer::NoRoom(stop, place),
     };
     enter(tree, new, group, user);
     RoomAnswer::Granted(count)

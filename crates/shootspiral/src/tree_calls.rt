@@ -2,7 +2,7 @@
 ghost use mathlib.Core.Path.{_≡_};
 ghost use Rattle.model.specs.Calls.{make, remove, handOver, admit, fork, exit, charge, release};
 ghost use Rattle.model.specs.Replies.{reply};
-ghost use Rattle.tree.specs.Layout.{view, words};
+ghost use Rattle.tree.specs.Layout.{view, treeWords};
 ghost use Rattle.tree.specs.Kept.{Kept, Fresh};
 ghost use Rattle.tree.specs.Calling.{Answered};
 ghost use Rattle.shootspiral.specs.Interface.{roomWords};
@@ -36,7 +36,7 @@ pub extern "C" fn ss_fresh(tree: &mut Tree, machine_pages: u64)
 // How many words a tree has.
 #[no_mangle]
 pub extern "C" fn ss_tree_words() -> u64
-    ensures { λ r. ⌜ r ≡ words ⌝ }
+    ensures { λ r. ⌜ r ≡ treeWords ⌝ }
 {
     WORDS as u64
 }

@@ -10,13 +10,13 @@ use lib.Seq.{length-take-le, take-at, take-suc-set, take-length, paste, paste-su
 use borrow.Author.Tests.{le-leb, lt-leb}
 use Rattle.model.specs.declared.Errno.{Errno}
 use Rattle.model.specs.declared.ReadAnswer.{ReadAnswer}
-use Rattle.text.specs.Write.{Wrote, Copied, Delivered}
+use Rattle.text.specs.Write.{Appended, Copied, Delivered}
 
-pub wrote-byte : (l : List ℕ) (i b : ℕ) → i < length l → Wrote l i (b ∷ []) (set l i b) (i + 1)
+pub wrote-byte : (l : List ℕ) (i b : ℕ) → i < length l → Appended l i (b ∷ []) (set l i b) (i + 1)
 wrote-byte l i b h = record { end = refl; front = rw add-one (take-suc-set l i b h) }
 
 -- one text after another
-pub wrote-then : {a b c s t : List ℕ} {i j k : ℕ} → Wrote a i s b j → Wrote b j t c k → Wrote a i (s ++ t) c k
+pub wrote-then : {a b c s t : List ℕ} {i j k : ℕ} → Appended a i s b j → Appended b j t c k → Appended a i (s ++ t) c k
 wrote-then {a} {b} {c} {s} {t} {i} {j} {k} p q =
     record {
       end = omega (arith, p .end, q .end, length-append s t);
@@ -24,7 +24,7 @@ wrote-then {a} {b} {c} {s} {t} {i} {j} {k} p q =
     }
 
 -- the same text by another name
-pub wrote-as : {a b s t : List ℕ} {i j : ℕ} → s ≡ t → Wrote a i s b j → Wrote a i t b j
+pub wrote-as : {a b s t : List ℕ} {i j : ℕ} → s ≡ t → Appended a i s b j → Appended a i t b j
 wrote-as e w = rw e at w
 
 -- ---- a copy, where the loop has copied n bytes of s to `at`
@@ -36,7 +36,7 @@ module _ (d e : List ℕ) (at : ℕ) (s : List ℕ) (n : ℕ) (q : e ≡ paste d
   pub copy-done : n ≡ length s → Copied d at s e (at + n)
   copy-done p = record { end = rw p; whole = rw (q, p, take-length s) }
 
-pub copied-wrote : {d s e : List ℕ} {at k : ℕ} → at + length s ≤ length d → Copied d at s e k → Wrote d at s e k
+pub copied-wrote : {d s e : List ℕ} {at k : ℕ} → at + length s ≤ length d → Copied d at s e k → Appended d at s e k
 copied-wrote {d} {s} {e} {at} {k} h c =
     let f : take k (take at d ++ s ++ drop (at + length s) d) ≡ take at d ++ s =
     rw (c .end) (take-at (take at d ++ s) (drop (at + length s) d) (at + length s)

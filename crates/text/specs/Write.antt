@@ -12,7 +12,7 @@ use Rattle.model.specs.declared.Answer.{Answer}
 use Rattle.model.specs.declared.ReadAnswer.{ReadAnswer}
 
 -- the text was written at i, up to k: what stood before i stands, and of what comes after k nothing is said
-pub record Wrote (old : List ℕ) (i : ℕ) (text new : List ℕ) (k : ℕ) : Type 0 where
+pub record Appended (old : List ℕ) (i : ℕ) (text new : List ℕ) (k : ℕ) : Type 0 where
   pub end : k ≡ i + length text
   pub front : take k new ≡ take i old ++ text
 

@@ -6,7 +6,7 @@ ghost use mathlib.Core.Path.{_≡_};
 ghost use lib.ListN.{length};
 ghost use Rattle.model.specs.Text.{decimal};
 ghost use Rattle.model.specs.Settings.{limitText};
-ghost use Rattle.text.specs.Write.{Wrote, Copied, Delivered};
+ghost use Rattle.text.specs.Write.{Appended, Copied, Delivered};
 use model::Errno;
 use model::Limit;
 use model::ReadAnswer;
@@ -14,7 +14,7 @@ use model::ReadAnswer;
 // One byte.
 pub fn put_byte(out: &mut [u8], at: usize, b: u8) -> usize
     requires { ⌜ at < length (now out) ⌝ }
-    ensures { λ r. ⌜ Wrote (now (out .entry)) at (b ∷ []) (now (out .exit)) r ⌝ }
+    ensures { λ r. ⌜ Appended (now (out .entry)) at (b ∷ []) (now (out .exit)) r ⌝ }
 {
     out[at] = b;
     at + 1
@@ -36,7 +36,7 @@ fn copy(out: &mut [u8], at: usize, text: &[u8]) -> usize
 // A text.
 pub fn put_text(out: &mut [u8], at: usize, text: &[u8]) -> usize
     requires { ⌜ at + length (now text) ≤ length (now out) ⌝ }
-    ensures { λ r. ⌜ Wrote (now (out .entry)) at (now (text .entry)) (now (out .exit)) r ⌝ }
+    ensures { λ r. ⌜ Appended (now (out .entry)) at (now (text .entry)) (now (out .exit)) r ⌝ }
 {
     copy(out, at, text)
 }
@@ -51,7 +51,7 @@ fn digit(n: u64) -> u8
 // The number in decimal, with no zero in front.
 pub fn put_number(out: &mut [u8], at: usize, n: u64) -> usize
     requires { ⌜ at + length (decimal n) ≤ length (now out) ⌝ }
-    ensures { λ r. ⌜ Wrote (now (out .entry)) at (decimal n) (now (out .exit)) r ⌝ }
+    ensures { λ r. ⌜ Appended (now (out .entry)) at (decimal n) (now (out .exit)) r ⌝ }
 {
     if n < 10 {
         return put_byte(out, at, digit(n));
@@ -63,7 +63,7 @@ pub fn put_number(out: &mut [u8], at: usize, n: u64) -> usize
 // "max", or the figure in decimal.
 pub fn put_limit(out: &mut [u8], at: usize, limit: Limit) -> usize
     requires { ⌜ at + length (limitText limit) ≤ length (now out) ⌝ }
-    ensures { λ r. ⌜ Wrote (now (out .entry)) at (limitText limit) (now (out .exit)) r ⌝ }
+    ensures { λ r. ⌜ Appended (now (out .entry)) at (limitText limit) (now (out .exit)) r ⌝ }
 {
     let Limit::Figure(n) = limit else {
         return put_text(out, at, b"max");

@@ -16,7 +16,7 @@ use Rattle.model.specs.declared.Resource.the-variants.{Pages, Processes}
 use Rattle.model.specs.declared.Limit.the-variants.{NoLimit, Figure}
 use Rattle.model.specs.declared.Controller.the-variants.{Cpu, Memory, Pids}
 use Rattle.model.proofs.FunctionLaws.{split, whether}
-use Rattle.tree.specs.Layout.{front, machineAt, row, words, word, sumField, sumIn, firstFlag, liveField, setField, firstWord, used, limitIn, placeIn, flagIn, groupRow, processIn, view, SpareRow}
+use Rattle.tree.specs.Layout.{front, machineAt, rowWords, treeWords, word, sumField, sumIn, firstFlag, liveField, setField, firstWord, used, limitIn, placeIn, flagIn, groupRow, processIn, view, SpareRow}
 use Rattle.tree.specs.Kept.{countOf, Kept}
 use Rattle.tree.specs.OneForm.{OneForm}
 use Rattle.tree.specs.declared.sum.Counter.{Counter}
@@ -107,7 +107,7 @@ module _ (v w : ℕ → ℕ) (a : SpareRow v) (b : SpareRow w) (sums : (c : Coun
       (sums (Of Pages),
       tt))))))))))))))))
 
-  row-same : (k : ℕ) → k < row → v k ≡ w k
+  row-same : (k : ℕ) → k < rowWords → v k ≡ w k
   row-same k l =
       elim (decLt k used) [
         | yes h ↦ below (λ k. v k ≡ w k) used places-same k h
@@ -118,7 +118,7 @@ module _ (xs ys : List ℕ) (k : Kept xs) (j : Kept ys) (e : view xs ≡ view ys
   sums-same : (g : ℕ) (c : Counter) → sumIn xs c g ≡ sumIn ys c g
   sums-same g c = k .sums c g ∙ ap (λ (t : Tree). countOf (cores t) (places t) c g) e ∙ sym (j .sums c g)
 
-  words-same : (g i : ℕ) → g < groups → i < row → word xs g i ≡ word ys g i
+  words-same : (g i : ℕ) → g < groups → i < rowWords → word xs g i ≡ word ys g i
   words-same g i low l =
       row-same (word xs g) (word ys g) (k .spare .rows g low) (j .spare .rows g low) (sums-same g) (ap (λ (t : Tree). t .group g) e) i l
 
@@ -145,11 +145,11 @@ module _ (xs ys : List ℕ) (k : Kept xs) (j : Kept ys) (e : view xs ≡ view ys
       back : (i : ℕ) → processes ≤ i → processes + (i - processes) ≡ i
       back i h = omega arith
 
-  rows-same : (i : ℕ) → front ≤ i → i < words → getD xs i 0 ≡ getD ys i 0
+  rows-same : (i : ℕ) → front ≤ i → i < treeWords → getD xs i 0 ≡ getD ys i 0
   rows-same i from to =
-      let g : ℕ = (i - front) / row in
-      let c : ℕ = (i - front) % row in
-      let at : front + g * row + c ≡ i = omega arith in
+      let g : ℕ = (i - front) / rowWords in
+      let c : ℕ = (i - front) % rowWords in
+      let at : front + g * rowWords + c ≡ i = omega arith in
       rw (← at) (words-same g c (omega arith) (omega arith))
 
   one : xs ≡ ys

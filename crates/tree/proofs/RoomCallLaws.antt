@@ -10,8 +10,7 @@ use Rattle.model.specs.Sizes.{largestCharge}
 use Rattle.model.specs.Checks.{Check, first}
 use Rattle.model.specs.Tree.{isLive, parents, places}
 use Rattle.model.specs.Hierarchy.{inside, factsOf}
-use Rattle.model.specs.Rooms as R
-use Rattle.model.specs.Rooms.{actingLimit, consult, roomFor, shortage}
+use Rattle.model.specs.Rooms.{room, full, actingLimit, consult, roomFor, shortage}
 use Rattle.model.specs.Rules.{processGroup}
 use Rattle.model.specs.Calls.{Call, roomCheck, verdict}
 use Rattle.model.specs.Replies.{roomAnswer}
@@ -31,8 +30,8 @@ use Rattle.tree.specs.Calling.{Calling, Applied}
 use Rattle.tree.specs.declared.chain.Chain.{Chain}
 use Rattle.tree.specs.declared.sum.Counter.{Counter}
 use Rattle.tree.specs.declared.sum.Counter.the-variants.{Of}
-use Rattle.tree.specs.declared.counter.Room.{Room}
-use Rattle.tree.specs.declared.counter.Room.the-variants.{Fits, Full}
+use Rattle.tree.specs.declared.counter.Search.{Search}
+use Rattle.tree.specs.declared.counter.Search.the-variants.{Fits, Full}
 use Rattle.tree.proofs.KeptLaws.{searchable, room-found}
 use Rattle.tree.proofs.CallLaws.{call-refused, call-done}
 
@@ -74,20 +73,20 @@ module _ {xs : List ℕ} {call : Call} {r : Resource} {n p : ℕ} {cs : List Che
       room-call-searchable m few = searchable xs (o .kept) g (room-call-home .live) c h r m few
 
       -- what the search for room found
-      module _ (x : Room) (f : roomOf x ≡ consult (actingLimit (view xs) r) (sumIn xs (Of r)) n 0 (listed c)) where
+      module _ (x : Search) (f : roomOf x ≡ consult (actingLimit (view xs) r) (sumIn xs (Of r)) n 0 (listed c)) where
         found : roomOf x ≡ roomFor (factsOf (view xs)) r n (processGroup (view xs) p)
         found = rw (← v .group) (room-found xs (o .kept) g c h r n (roomOf x) f)
 
         -- a group had no room
         pub room-call-full : (s : GroupId) (i : ℕ) → x ≡ Full s i → Calling xs xs call expected (RoomAnswer.NoRoom s i)
         room-call-full s i e =
-            let y : roomFor (factsOf (view xs)) r n (processGroup (view xs) p) ≡ R.full (s .0) i = sym found ∙ ap roomOf e in
+            let y : roomFor (factsOf (view xs)) r n (processGroup (view xs) p) ≡ full (s .0) i = sym found ∙ ap roomOf e in
             call-refused xs (o .kept) call expected _ (shortage r) (o .verdict ∙ verdict-full cs _ r (v .passed) (s .0) i y)
             (sym (o .answer ∙ rw (v .passed, y)))
 
         -- all had
         module _ (i : ℕ) (e : x ≡ Fits i) where
-          enough : roomFor (factsOf (view xs)) r n (processGroup (view xs) p) ≡ R.room i
+          enough : roomFor (factsOf (view xs)) r n (processGroup (view xs) p) ≡ room i
           enough = sym found ∙ ap roomOf e
 
           pub room-call-accepted : verdict (view xs) call ≡ Answer.Done

@@ -11,7 +11,7 @@ use Rattle.model.specs.Tree.{Tree, Core, Place, lives, cores, places}
 use Rattle.model.specs.Hierarchy.{held, amount}
 use Rattle.model.specs.Effects.{fresh}
 use Rattle.model.specs.WellFormed.{WellFormed}
-use Rattle.tree.specs.Layout.{words, view, sumIn, Spare}
+use Rattle.tree.specs.Layout.{treeWords, view, sumIn, Spare}
 use Rattle.tree.specs.declared.sum.Counter.{Counter}
 use Rattle.tree.specs.declared.sum.Counter.the-variants.{Of, Groups}
 
@@ -30,13 +30,13 @@ Summed xs t = (c : Counter) (g : ℕ) → sumIn xs c g ≡ countOf (cores t) (pl
 
 -- the words stand for t, with every sum and no other word
 pub record Settled (xs : List ℕ) (t : Tree) : Type 0 where
-  pub long : length xs ≡ words
+  pub long : length xs ≡ treeWords
   pub tree : view xs ≡ t
   pub sums : Summed xs t
   pub spare : Spare xs
 
 pub record Kept (xs : List ℕ) : Type 0 where
-  pub long : length xs ≡ words
+  pub long : length xs ≡ treeWords
   pub formed : WellFormed (view xs)
   pub sums : Summed xs (view xs)
   pub spare : Spare xs

@@ -2,7 +2,7 @@
 ghost use mathlib.Core.Path.{_≡_};
 ghost use Prim.Native.Nat.{_<_};
 ghost use Rattle.model.specs.Sizes.{groups};
-ghost use Rattle.tree.specs.Layout.{row, put, sumIn, sumField};
+ghost use Rattle.tree.specs.Layout.{rowWords, withWord, sumIn, sumField};
 use super::layout::FRONT;
 use super::layout::ROW;
 use super::layout::Tree;
@@ -22,7 +22,7 @@ pub enum Counter {
 }
 
 fn sum_field(c: Counter) -> usize
-    ensures { λ k. ⌜ (k ≡ sumField c) × (k < row) ⌝ }
+    ensures { λ k. ⌜ (k ≡ sumField c) × (k < rowWords) ⌝ }
 {
     match c {
         Counter::Of(r) => match r {
@@ -44,7 +44,7 @@ pub fn sum(t: &Tree, g: GroupId, c: Counter) -> u64
 
 pub fn set_sum(t: &mut Tree, g: GroupId, c: Counter, n: u64)
     requires { ⌜ g .0 < groups ⌝ }
-    ensures { λ _. ⌜ now (t .exit) ≡ put (now (t .entry)) (g .0) (sumField c) n ⌝ }
+    ensures { λ _. ⌜ now (t .exit) ≡ withWord (now (t .entry)) (g .0) (sumField c) n ⌝ }
 {
     set_word(t, g.0, sum_field(c), n);
 }

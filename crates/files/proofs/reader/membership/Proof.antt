@@ -5,7 +5,7 @@ use lib.Seq.{length-take-le}
 use borrow.Author.Tests.{not-true, not-false}
 use borrow.Author.Needs.{needs}
 use Rattle.files.proofs.WrittenLaws.{wrote-inside}
-use Rattle.files.proofs.ReadingLaws.{membership-no-number, membership-dead, membership-delivered}
+use Rattle.files.proofs.DeliveryLaws.{membership-no-number, membership-dead, membership-delivered}
 use Rattle.files.proofs.reader.membership.Statement.{statement}
 use Rattle.files.proofs.reader.membership.Tie as tie
 

@@ -11,7 +11,7 @@ use Rattle.model.specs.Tree.{lives}
 use Rattle.tree.specs.Layout.{view}
 use Rattle.tree.proofs.KeptLaws.{live-row}
 use Rattle.files.proofs.WrittenLaws.{wrote-inside}
-use Rattle.files.proofs.ReadingLaws.{read-no-number, read-dead, read-unknown, read-not-present, read-delivered}
+use Rattle.files.proofs.DeliveryLaws.{read-no-number, read-dead, read-unknown, read-not-present, read-delivered}
 use Rattle.files.proofs.reader.read.Statement.{statement}
 use Rattle.files.proofs.reader.read.Tie as tie
 

@@ -1,7 +1,7 @@
 -- `tree::counter::adjust` meets its contract. Assumes nothing.
 use mathlib.Core.Path.{ap, _∙_}
 use Prim.Native.Nat.{_+_, _-_}
-use Rattle.tree.specs.Layout.{put, sumField}
+use Rattle.tree.specs.Layout.{withWord, sumField}
 use borrow.Author.Needs.{needs}
 use Rattle.tree.proofs.counter.adjust.Statement.{statement}
 use Rattle.tree.proofs.counter.adjust.Tie as tie
@@ -23,7 +23,7 @@ returns c =
     let f = c .before .before in
     let s = f .before .before in
     c .set-sum .ensures
-    ∙ ap (λ x. put (s .args .t .now) (s .args .g .0) (sumField (s .args .c)) (x + s .args .more - s .args .less)) (f .sum .ensures)
+    ∙ ap (λ x. withWord (s .args .t .now) (s .args .g .0) (sumField (s .args .c)) (x + s .args .more - s .args .less)) (f .sum .ensures)
 
 pub adjust-spec : {M : Type 1} → statement M
 adjust-spec = tie.close (tie.spec sum-requires add-next sub-next set-sum-requires returns)

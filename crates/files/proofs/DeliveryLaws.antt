@@ -26,7 +26,7 @@ use Rattle.model.proofs.FunctionLaws.{split}
 use Rattle.model.proofs.CheckLaws.{says-first, first-says}
 use Rattle.model.proofs.AmountLaws.{place-live}
 use Rattle.text.specs.Name.{asFileName}
-use Rattle.text.specs.Write.{Wrote, Delivered, delivery}
+use Rattle.text.specs.Write.{Appended, Delivered, delivery}
 use Rattle.text.specs.declared.name.FileName.{FileName}
 use Rattle.tree.specs.Layout.{view}
 use Rattle.tree.specs.Kept.{Kept}
@@ -105,7 +105,7 @@ module _ (xs : List ℕ) (g : ℕ) (name old : List ℕ) where
             ∙ last-check (fileText (factsOf (view xs)) g name) old
 
         pub read-delivered : isPresent (view xs) g f ≡ true → {a b : List ℕ} {k : ℕ}
-            → Wrote a 0 (contents (factsOf (view xs)) g f) b k → {r : ReadAnswer} {new : List ℕ}
+            → Appended a 0 (contents (factsOf (view xs)) g f) b k → {r : ReadAnswer} {new : List ℕ}
             → Delivered (take k b) old r new → Read r new
         read-delivered a w d = reading-delivered _ _ (accepted a) (w .front ∙ sym text) d
 
@@ -128,7 +128,7 @@ module _ (xs : List ℕ) (p : ℕ) (old : List ℕ) where
       (λ d. d))
 
   pub membership-delivered : isLive (places (view xs) p) ≡ true → {a b : List ℕ} {k : ℕ}
-      → Wrote a 0 (membershipLine (view xs) p) b k → {r : ReadAnswer} {new : List ℕ}
+      → Appended a 0 (membershipLine (view xs) p) b k → {r : ReadAnswer} {new : List ℕ}
       → Delivered (take k b) old r new → Membership r new
   unfolding verdict checks
   membership-delivered l w d =
