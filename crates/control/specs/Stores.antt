@@ -34,6 +34,10 @@ pub record Ranged (xs : List ℕ) : Type 0 where
   pub long : length xs ≡ treeWords
   pub range : (k : ℕ) → lives (view xs) k ≡ true → k < groups
 
--- the settings of what is gone from g reset in all its children
+-- the settings of what is gone from g reset in k, if that is a live child of it
+abbrev pub childReset : Tree → ℕ → Controls → ℕ → Tree
+childReset t g gone k = changedAt t k (resetChild t g gone k)
+
+-- and in all its children
 abbrev pub childrenReset : Tree → ℕ → Controls → Tree
 childrenReset t g gone = withGroups t (λ k. resetChild t g gone k (t .group k))

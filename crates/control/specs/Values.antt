@@ -8,10 +8,12 @@ use Rattle.model.specs.Functions.{known, passes}
 use Rattle.model.specs.Checks.{Check, bar, need}
 use Rattle.model.specs.Text.{tooLong, lineWords}
 use Rattle.model.specs.Settings.{valueOf, inRange}
+use Rattle.model.specs.Calls.{Call, lineValue, verdict}
 use Rattle.model.specs.declared.Setting.{Setting}
 use Rattle.model.specs.declared.SettingValue.{SettingValue}
 use Rattle.model.specs.declared.Errno.the-variants.{Einval, Erange}
 use Rattle.model.specs.declared.Answer.{Answer}
+use Rattle.tree.specs.Layout.{view}
 use Rattle.tree.specs.Kept.{KeptAt}
 use Rattle.control.specs.declared.setting.Given.{Given}
 
@@ -27,6 +29,10 @@ valueChecks s line =
 abbrev pub Gives : Answer → Option SettingValue → Given → Type 0
 Gives answer value (Given.Value v) = (answer ≡ Answer.Done) × (value ≡ some v)
 Gives answer value (Given.Refused e) = answer ≡ Answer.Refused e
+
+-- what a write is vetted to
+abbrev pub Vetted : List ℕ → ℕ → ℕ → List ℕ → List ℕ → Given → Type 0
+Vetted xs user g file line = Gives (verdict (view xs) (Call.writeSetting user g file line)) (lineValue file line)
 
 -- a live group, and a value in its range
 pub record Settable (xs : List ℕ) (g : ℕ) (value : SettingValue) : Type 0 where

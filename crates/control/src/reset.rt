@@ -1,9 +1,9 @@
 // The settings of controllers that leave a group's set, back at their defaults in each live child.
-ghost use Rattle.model.specs.Effects.{resetChild, controlled};
+ghost use Rattle.model.specs.Effects.{controlled};
 ghost use Rattle.tree.specs.Layout.{view};
 ghost use Rattle.tree.specs.Changes.{GroupRow, Wrote};
 ghost use Rattle.control.specs.Flags.{flagOf};
-ghost use Rattle.control.specs.Stores.{changedAt, cpuReset, limitReset, Ranged, childrenReset};
+ghost use Rattle.control.specs.Stores.{changedAt, cpuReset, limitReset, Ranged, childReset, childrenReset};
 use super::flags::Flags;
 use model::GroupId;
 use model::Limit;
@@ -42,7 +42,7 @@ fn reset_limit(t: &mut Tree, k: GroupId, r: Resource, gone: bool)
 // The settings of the controllers that are gone, in group k if it is a live child of g.
 fn reset_child(t: &mut Tree, g: GroupId, k: GroupId, gone: Flags)
     requires { ⌜ GroupRow (now t) (k .0) ⌝ }
-    ensures { λ _. ⌜ Wrote (now (t .entry)) (now (t .exit)) (changedAt (view (now (t .entry))) (k .0) (resetChild (view (now (t .entry))) (g .0) (flagOf gone) (k .0))) ⌝ }
+    ensures { λ _. ⌜ Wrote (now (t .entry)) (now (t .exit)) (childReset (view (now (t .entry))) (g .0) (flagOf gone) (k .0)) ⌝ }
 {
     if !is_child(t, g, k) {
         return;

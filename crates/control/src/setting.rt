@@ -3,14 +3,14 @@ ghost use mathlib.Core.Option.{some};
 ghost use Rattle.model.specs.Text.{lineWords};
 ghost use Rattle.model.specs.Settings.{valueOf};
 ghost use Rattle.model.specs.Checks.{first};
-ghost use Rattle.model.specs.Calls.{lineValue, verdict, writeSetting};
+ghost use Rattle.model.specs.Calls.{writeSetting};
 ghost use Rattle.model.specs.Effects.{written};
 ghost use Rattle.tree.specs.Layout.{view};
 ghost use Rattle.tree.specs.Changes.{Wrote};
 ghost use Rattle.tree.specs.Kept.{Kept};
 ghost use Rattle.tree.specs.Calling.{Called};
 ghost use Rattle.control.specs.Stores.{changedAt};
-ghost use Rattle.control.specs.Values.{Settable, valueChecks, Gives};
+ghost use Rattle.control.specs.Values.{Settable, valueChecks, Gives, Vetted};
 use model::Answer;
 use model::Errno;
 use model::GroupId;
@@ -63,25 +63,25 @@ fn vet_value(setting: Setting, line: &[u8]) -> Given
 
 // Einval: no group number. Enoent: not live, no such setting, its controller not on. Eacces: may not write the parent. Then as
 // the line's value.
-fn vet_setting(t: &Tree, user: u32, g: GroupId, file: &[u8], line: &[u8]) -> Given
-    requires { ⌜ Kept (now t) ⌝ }
-    ensures { λ r. ⌜ Gives (verdict (view (now (t .entry))) (writeSetting user (g .0) (now (file .entry)) (now (line .entry)))) (lineValue (now (file .entry)) (now (line .entry))) r ⌝ }
+fn vet_setting(tree: &Tree, user: u32, group: GroupId, file: &[u8], line: &[u8]) -> Given
+    requires { ⌜ Kept (now tree) ⌝ }
+    ensures { λ r. ⌜ Vetted (now (tree .entry)) user (group .0) (now (file .entry)) (now (line .entry)) r ⌝ }
 {
-    if GROUPS <= g.0 {
+    if GROUPS <= group.0 {
         return Given::Refused(Errno::Einval);
     }
-    if !is_live(t, g) {
+    if !is_live(tree, group) {
         return Given::Refused(Errno::Enoent);
     }
     let named = setting_named(file);
     let SettingName::Of(setting) = named else {
         return Given::Refused(Errno::Enoent);
     };
-    if !is_on(t, setting_controller(setting), g) {
+    if !is_on(tree, setting_controller(setting), group) {
         return Given::Refused(Errno::Enoent);
     }
-    let above = parent(t, g);
-    if !may_write(t, user, above) {
+    let above = parent(tree, group);
+    if !may_write(tree, user, above) {
         return Given::Refused(Errno::Eacces);
     }
     vet_value(setting, line)
@@ -103,7 +103,8 @@ fn store(t: &mut Tree, g: GroupId, value: SettingValue)
 // "A limit below present usage is accepted."
 pub fn write_setting(tree: &mut Tree, user: u32, group: GroupId, file: &[u8], line: &[u8]) -> Answer
     requires { ⌜ Kept (now tree) ⌝ }
-    ensures { λ r. ⌜ Called (now (tree .entry)) (now (tree .exit)) (writeSetting user (group .0) (now (file .entry)) (now (line .entry))) r ⌝ }
+    ensures { λ r. ⌜ Called (now (tree .entry)) (now (tree .exit))
+        (writeSetting user (group .0) (now (file .entry)) (now (line .entry))) r ⌝ }
 {
     let given = vet_setting(tree, user, group, file, line);
     match given {

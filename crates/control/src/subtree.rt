@@ -40,17 +40,17 @@ fn joins_populated(t: &Tree, g: GroupId, wishes: Wishes) -> bool
 // Einval: no group number. Enoent: not live. Eacces: may not write the group. Einval: a line that is too long, or a bad
 // word. Enoent: a wanted controller not available. Ebusy: a controller that leaves is in a child's set, or the
 // inner-process rule.
-fn vet_control(t: &Tree, user: u32, g: GroupId, line: &[u8]) -> Answer
-    requires { ⌜ Kept (now t) ⌝ }
-    ensures { λ r. ⌜ r ≡ verdict (view (now (t .entry))) (writeControl user (g .0) (now (line .entry))) ⌝ }
+fn vet_control(tree: &Tree, user: u32, group: GroupId, line: &[u8]) -> Answer
+    requires { ⌜ Kept (now tree) ⌝ }
+    ensures { λ r. ⌜ r ≡ verdict (view (now (tree .entry))) (writeControl user (group .0) (now (line .entry))) ⌝ }
 {
-    if GROUPS <= g.0 {
+    if GROUPS <= group.0 {
         return Answer::Refused(Errno::Einval);
     }
-    if !is_live(t, g) {
+    if !is_live(tree, group) {
         return Answer::Refused(Errno::Enoent);
     }
-    if !may_write(t, user, g) {
+    if !may_write(tree, user, group) {
         return Answer::Refused(Errno::Eacces);
     }
     if is_too_long(line) {
@@ -60,13 +60,13 @@ fn vet_control(t: &Tree, user: u32, g: GroupId, line: &[u8]) -> Answer
         return Answer::Refused(Errno::Einval);
     }
     let wishes = asks(line);
-    if is_any(for_each(t, g, wishes, Test::Absent)) {
+    if is_any(for_each(tree, group, wishes, Test::Absent)) {
         return Answer::Refused(Errno::Enoent);
     }
-    if is_any(for_each(t, g, wishes, Test::Held)) {
+    if is_any(for_each(tree, group, wishes, Test::Held)) {
         return Answer::Refused(Errno::Ebusy);
     }
-    if joins_populated(t, g, wishes) {
+    if joins_populated(tree, group, wishes) {
         return Answer::Refused(Errno::Ebusy);
     }
     Answer::Done

@@ -1,8 +1,8 @@
 -- Demand 2 of the definitions, told by the contracts. Assumes nothing.
-use Prim.Native.Nat.{ℕ, suc}
+use Prim.Native.Nat.{ℕ}
 use native.Mathlib.Omega.{arith}
 use mathlib.Core.Bool.{true}
-use mathlib.Core.List.{List, [], _∷_, _++_, head-eq-of-cons-eq}
+use mathlib.Core.List.{List, [], _∷_, head-eq-of-cons-eq}
 use mathlib.Core.Logic.{_≢_}
 use mathlib.Core.Option.{Option, none, some}
 use mathlib.Core.Path.{_≡_, refl, ap, ap₂, sym, _∙_, subst}
@@ -36,13 +36,13 @@ use Rattle.model.proofs.Steps.{passed, group-lives}
 use Rattle.model.proofs.OwnsInside.{owns-step}
 use Rattle.model.proofs.Demands.{demands}
 use Rattle.tree.specs.Layout.{view}
-use Rattle.tree.specs.Kept.{Kept, Fresh}
+use Rattle.tree.specs.Kept.{Kept}
 use Rattle.tree.specs.Calling.{Answered}
 use Rattle.tree.proofs.AnsweredLaws.{answered-number, answered-done, answered-effect}
 use Rattle.tree.proofs.WalkLaws.{member-at}
 use Rattle.shootspiral.specs.Interface.{groupWord, roomWords, Told}
 use Rattle.demands.specs.Runs.{Runs, start, next, Along}
-use Rattle.demands.specs.Demand2.{Exactly, RoomTold, BadPart, Restores, ShownBack, Demand2}
+use Rattle.demands.specs.Demand2.{Exactly, RoomTold, Restores, ShownBack, Demand2}
 use Rattle.demands.proofs.Runs.{followed}
 use Rattle.demands.proofs.Texts.{delivered-file, delivered-line}
 

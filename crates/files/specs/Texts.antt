@@ -9,7 +9,10 @@ use Rattle.model.specs.Functions.{pick}
 use Rattle.model.specs.Sizes.{processes, deepest}
 use Rattle.model.specs.Tree.{Tree, isLive, parents, depths, places}
 use Rattle.model.specs.Text.{bytes, newline, space}
-use Rattle.model.specs.Files.{path}
+use Rattle.model.specs.Hierarchy.{factsOf}
+use Rattle.model.specs.Files.{path, contents}
+use Rattle.model.specs.declared.File.{File}
+use Rattle.text.specs.Write.{Appended}
 use Rattle.tree.specs.Layout.{view}
 use Rattle.tree.specs.Kept.{Kept, KeptAt}
 
@@ -25,6 +28,10 @@ longestPath = deepest * 3
 pub record Ready (xs : List ℕ) (g : ℕ) (out : List ℕ) : Type 0 where
   pub group : KeptAt xs g
   pub room : longestText ≤ length out
+
+-- the text of a file at the front
+abbrev pub Renders : List ℕ → ℕ → File → List ℕ → List ℕ → ℕ → Type 0
+Renders xs g file old new k = Appended old 0 (contents (factsOf (view xs)) g file) new k
 
 -- a live group so deep, and room for its path
 pub record HasPath (xs : List ℕ) (g deep : ℕ) (out : List ℕ) (at : ℕ) : Type 0 where

@@ -1,14 +1,12 @@
 // The two calls that deliver a text: a file of a group, and the membership line of a process. Anyone may read.
 ghost use mathlib.Core.Path.{_≡_};
-ghost use Rattle.model.specs.Hierarchy.{factsOf};
-ghost use Rattle.model.specs.Files.{isPresent, contents};
+ghost use Rattle.model.specs.Files.{isPresent};
 ghost use Rattle.model.specs.Calls.{read, membership};
-ghost use Rattle.text.specs.Write.{Appended};
 ghost use Rattle.tree.specs.Layout.{view};
 ghost use Rattle.tree.specs.Counters.{HasParent};
 ghost use Rattle.tree.specs.Kept.{Kept};
 ghost use Rattle.tree.specs.Calling.{Delivering};
-ghost use Rattle.files.specs.Texts.{Ready};
+ghost use Rattle.files.specs.Texts.{Ready, Renders};
 use super::list::put_controllers;
 use super::list::put_procs;
 use super::list::put_subtree_control;
@@ -57,7 +55,7 @@ fn is_present(t: &Tree, g: GroupId, file: File) -> bool
 // The text of a file.
 fn render(t: &Tree, g: GroupId, file: File, out: &mut [u8]) -> usize
     requires { ⌜ Ready (now t) (g .0) (now out) ⌝ }
-    ensures { λ r. ⌜ Appended (now (out .entry)) 0 (contents (factsOf (view (now (t .entry)))) (g .0) file) (now (out .exit)) r ⌝ }
+    ensures { λ r. ⌜ Renders (now (t .entry)) (g .0) file (now (out .entry)) (now (out .exit)) r ⌝ }
 {
     match file {
         File::Procs => put_procs(t, g, out),

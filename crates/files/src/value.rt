@@ -2,15 +2,12 @@
 // counts are its running sums.
 ghost use Prim.Native.Nat.{_≤_};
 ghost use lib.ListN.{length};
-ghost use Rattle.model.specs.Hierarchy.{factsOf};
 ghost use Rattle.model.specs.Text.{ended};
 ghost use Rattle.model.specs.Settings.{limitText, valueText};
-ghost use Rattle.model.specs.Files.{contents};
 ghost use Rattle.model.specs.declared.File.{File};
 ghost use Rattle.model.specs.declared.SettingValue.{SettingValue};
 ghost use Rattle.text.specs.Write.{Appended};
-ghost use Rattle.tree.specs.Layout.{view};
-ghost use Rattle.files.specs.Texts.{Ready};
+ghost use Rattle.files.specs.Texts.{Ready, Renders};
 use super::list::put_line;
 use model::GroupId;
 use model::Limit;
@@ -32,7 +29,7 @@ use tree::sum::sum;
 // Whether a live process is inside the group.
 pub fn put_events(t: &Tree, g: GroupId, out: &mut [u8]) -> usize
     requires { ⌜ Ready (now t) (g .0) (now out) ⌝ }
-    ensures { λ r. ⌜ Appended (now (out .entry)) 0 (contents (factsOf (view (now (t .entry)))) (g .0) File.Events) (now (out .exit)) r ⌝ }
+    ensures { λ r. ⌜ Renders (now (t .entry)) (g .0) File.Events (now (out .entry)) (now (out .exit)) r ⌝ }
 {
     if sum(t, g, Counter::Of(Resource::Processes)) == 0 {
         return put_text(out, 0, b"populated 0\n");
@@ -43,7 +40,7 @@ pub fn put_events(t: &Tree, g: GroupId, out: &mut [u8]) -> usize
 // What stands inside the group.
 pub fn put_current(t: &Tree, g: GroupId, s: Resource, out: &mut [u8]) -> usize
     requires { ⌜ Ready (now t) (g .0) (now out) ⌝ }
-    ensures { λ r. ⌜ Appended (now (out .entry)) 0 (contents (factsOf (view (now (t .entry)))) (g .0) (File.Current s)) (now (out .exit)) r ⌝ }
+    ensures { λ r. ⌜ Renders (now (t .entry)) (g .0) (File.Current s) (now (out .entry)) (now (out .exit)) r ⌝ }
 {
     let figure = to_figure(s, sum(t, g, Counter::Of(s)));
     put_line(out, 0, figure)
@@ -70,7 +67,7 @@ fn put_limit_line(out: &mut [u8], limit: Limit) -> usize
 // The whole text of a settings file.
 pub fn put_setting(t: &Tree, g: GroupId, s: Setting, out: &mut [u8]) -> usize
     requires { ⌜ Ready (now t) (g .0) (now out) ⌝ }
-    ensures { λ r. ⌜ Appended (now (out .entry)) 0 (contents (factsOf (view (now (t .entry)))) (g .0) (File.Value s)) (now (out .exit)) r ⌝ }
+    ensures { λ r. ⌜ Renders (now (t .entry)) (g .0) (File.Value s) (now (out .entry)) (now (out .exit)) r ⌝ }
 {
     match s {
         Setting::CpuWeight => put_line(out, 0, weight(t, g)),

@@ -7,7 +7,7 @@ use mathlib.Core.List.{List}
 use mathlib.Core.Logic.{_≢_}
 use mathlib.Core.Path.{_≡_, refl, ap, sym, _∙_}
 use lib.Dec.{eqb}
-use borrow.Author.Tests.{eqb-true, eqb-false, eq-eqb, ne-eqb}
+use borrow.Author.Tests.{eqb-true, eq-eqb, ne-eqb}
 use Rattle.model.specs.Functions.{upd, weigh, sum, any}
 use Rattle.model.specs.Sizes.{groups, processes}
 use Rattle.model.specs.Tree.{Tree, Place, nowhere, at, groupOf, cores, lives, parents, depths, places}
@@ -135,4 +135,3 @@ populated-leaf xs g k childless =
     rw (k .kept .sums (Of Processes) g)
     (sym (any-counted processes (λ p. standsIn (places t p) g) _
     (λ p. stands-alone t w g (k .live) (no-child t w g childless) (places t p) (λ h e. w .placed .group p h e))))
-

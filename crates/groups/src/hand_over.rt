@@ -13,16 +13,16 @@ use tree::layout::GROUPS;
 use tree::layout::Tree;
 
 // The checks, in the paper's order.
-fn vet_hand_over(t: &Tree, user: u32, g: GroupId, owner: u32) -> Answer
-    ensures { λ r. ⌜ r ≡ verdict (view (now (t .entry))) (handOver user (g .0) owner) ⌝ }
+fn vet_hand_over(tree: &Tree, user: u32, group: GroupId, owner: u32) -> Answer
+    ensures { λ r. ⌜ r ≡ verdict (view (now (tree .entry))) (handOver user (group .0) owner) ⌝ }
 {
-    if g.0 == 0 {
+    if group.0 == 0 {
         return Answer::Refused(Errno::Einval);
     }
-    if GROUPS <= g.0 {
+    if GROUPS <= group.0 {
         return Answer::Refused(Errno::Einval);
     }
-    if !is_live(t, g) {
+    if !is_live(tree, group) {
         return Answer::Refused(Errno::Enoent);
     }
     if user != 0 {

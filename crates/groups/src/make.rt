@@ -19,25 +19,25 @@ use tree::rule::may_write;
 use tree::sum::Counter;
 
 // The checks, in the paper's order.
-fn vet_make(t: &Tree, user: u32, above: GroupId, new: GroupId) -> Answer
-    ensures { λ r. ⌜ r ≡ verdict (view (now (t .entry))) (make user (above .0) (new .0)) ⌝ }
+fn vet_make(tree: &Tree, user: u32, parent: GroupId, new: GroupId) -> Answer
+    ensures { λ r. ⌜ r ≡ verdict (view (now (tree .entry))) (make user (parent .0) (new .0)) ⌝ }
 {
-    if GROUPS <= above.0 {
+    if GROUPS <= parent.0 {
         return Answer::Refused(Errno::Einval);
     }
     if GROUPS <= new.0 {
         return Answer::Refused(Errno::Einval);
     }
-    if !is_live(t, above) {
+    if !is_live(tree, parent) {
         return Answer::Refused(Errno::Enoent);
     }
-    if is_taken(t, new) {
+    if is_taken(tree, new) {
         return Answer::Refused(Errno::Eexist);
     }
-    if !may_write(t, user, above) {
+    if !may_write(tree, user, parent) {
         return Answer::Refused(Errno::Eacces);
     }
-    if DEEPEST <= depth(t, above) {
+    if DEEPEST <= depth(tree, parent) {
         return Answer::Refused(Errno::Eagain);
     }
     Answer::Done

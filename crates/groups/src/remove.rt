@@ -39,26 +39,26 @@ fn is_populated(t: &Tree, g: GroupId) -> bool
 }
 
 // The checks, in the paper's order. The root's parent is the root itself, whose owner is user 0.
-fn vet_remove(t: &Tree, user: u32, g: GroupId) -> Answer
-    requires { ⌜ Kept (now t) ⌝ }
-    ensures { λ r. ⌜ r ≡ verdict (view (now (t .entry))) (remove user (g .0)) ⌝ }
+fn vet_remove(tree: &Tree, user: u32, group: GroupId) -> Answer
+    requires { ⌜ Kept (now tree) ⌝ }
+    ensures { λ r. ⌜ r ≡ verdict (view (now (tree .entry))) (remove user (group .0)) ⌝ }
 {
-    if GROUPS <= g.0 {
+    if GROUPS <= group.0 {
         return Answer::Refused(Errno::Einval);
     }
-    if !is_live(t, g) {
+    if !is_live(tree, group) {
         return Answer::Refused(Errno::Enoent);
     }
-    if !may_write(t, user, parent(t, g)) {
+    if !may_write(tree, user, parent(tree, group)) {
         return Answer::Refused(Errno::Eacces);
     }
-    if g.0 == 0 {
+    if group.0 == 0 {
         return Answer::Refused(Errno::Ebusy);
     }
-    if has_child(t, g) {
+    if has_child(tree, group) {
         return Answer::Refused(Errno::Ebusy);
     }
-    if is_populated(t, g) {
+    if is_populated(tree, group) {
         return Answer::Refused(Errno::Ebusy);
     }
     Answer::Done

@@ -5,7 +5,7 @@ use mathlib.Core.Bool.{true, false}
 use mathlib.Core.List.{List}
 use mathlib.Core.Path.{_≡_}
 use Rattle.model.specs.Sizes.{processes}
-use Rattle.model.specs.Tree.{Process, atProcess, isLive, places}
+use Rattle.model.specs.Tree.{Process, at, atProcess, isLive, places}
 use Rattle.model.specs.Rules.{processGroup}
 use Rattle.tree.specs.Layout.{view}
 use Rattle.tree.specs.Kept.{Settled, KeptAt}
@@ -29,3 +29,7 @@ pub record Moving (xs : List ℕ) (p g : ℕ) : Type 0 where
 -- the words stand for the tree where process p is v
 abbrev pub Seated : List ℕ → List ℕ → ℕ → Process → Type 0
 Seated xs ys p v = Settled ys (atProcess (view xs) p v)
+
+-- the process stands in g now, and has the user that it had
+abbrev pub Moved : List ℕ → List ℕ → ℕ → ℕ → Type 0
+Moved xs ys p g = Seated xs ys p (record { place = at g; user = view xs .process p .user })

@@ -1,7 +1,6 @@
 // Where a process stands and the running sums of processes above it, changed together. It makes no check of its own.
 ghost use Rattle.model.specs.Tree.{at, noProcess};
-ghost use Rattle.tree.specs.Layout.{view};
-ghost use Rattle.processes.specs.Place.{Vacant, Standing, Moving, Seated};
+ghost use Rattle.processes.specs.Place.{Vacant, Standing, Moving, Seated, Moved};
 use model::GroupId;
 use model::ProcessId;
 use model::Resource;
@@ -35,7 +34,7 @@ pub fn leave(tree: &mut Tree, process: ProcessId)
 // A process moves from its group to another, or to the same.
 pub fn relocate(tree: &mut Tree, process: ProcessId, target: GroupId)
     requires { ⌜ Moving (now tree) (process .0) (target .0) ⌝ }
-    ensures { λ _. ⌜ Seated (now (tree .entry)) (now (tree .exit)) (process .0) (record { place = at (target .0); user = view (now (tree .entry)) .process (process .0) .user }) ⌝ }
+    ensures { λ _. ⌜ Moved (now (tree .entry)) (now (tree .exit)) (process .0) (target .0) ⌝ }
 {
     let user = process_user(tree, process);
     let source = process_group(tree, process);

@@ -24,7 +24,8 @@ pub extern "C" fn ss_read(
 ) -> u32
     requires { ⌜ Kept (now tree) ⌝ }
     ensures { λ r. ⌜ Answered (now (tree .entry)) (now (tree .entry)) (read group (now (file .entry)) (now (reply .entry))) r ⌝ }
-    ensures { λ r. ⌜ Told (replyOf (view (now (tree .entry))) (read group (now (file .entry)) (now (reply .entry)))) (now (told .exit)) (now (reply .exit)) ⌝ }
+    ensures { λ r. ⌜ Told (replyOf (view (now (tree .entry))) (read group (now (file .entry)) (now (reply .entry))))
+        (now (told .exit)) (now (reply .exit)) ⌝ }
 {
     let a = read(tree, GroupId(group), file, reply);
     *told = [read_length(a)];
@@ -40,7 +41,8 @@ pub extern "C" fn ss_membership(
 ) -> u32
     requires { ⌜ Kept (now tree) ⌝ }
     ensures { λ r. ⌜ Answered (now (tree .entry)) (now (tree .entry)) (membership process (now (reply .entry))) r ⌝ }
-    ensures { λ r. ⌜ Told (replyOf (view (now (tree .entry))) (membership process (now (reply .entry)))) (now (told .exit)) (now (reply .exit)) ⌝ }
+    ensures { λ r. ⌜ Told (replyOf (view (now (tree .entry))) (membership process (now (reply .entry))))
+        (now (told .exit)) (now (reply .exit)) ⌝ }
 {
     let a = membership(tree, ProcessId(process), reply);
     *told = [read_length(a)];

@@ -2,19 +2,16 @@
 -- which each has one page. Assumes nothing.
 use Prim.Native.Nat.{ℕ, suc, _+_, _-_, _≤_, _<_}
 use native.Mathlib.Omega.{arith}
-use mathlib.Core.Bool.{Bool, true, false, not}
+use mathlib.Core.Bool.{true, false}
 use mathlib.Core.Logic.{_≢_}
 use mathlib.Core.Path.{_≡_, refl, ap, ap₂, sym, _∙_, fun-ext}
-use lib.Dec.{eqb}
-use borrow.Author.Tests.{eq-eqb, ne-eqb}
-use Rattle.model.specs.Functions.{upd, weigh, sum}
+use Rattle.model.specs.Functions.{upd, weigh}
 use Rattle.model.specs.Sizes.{groups, deepest}
-use Rattle.model.specs.Tree.{Tree, Core, Place, at, noCore, newCore, withOwn, cores, lives, parents, places}
+use Rattle.model.specs.Tree.{Core, Place, at, noCore, newCore, withOwn}
 use Rattle.model.specs.Hierarchy.{inside, ownPages, usage, amount}
-use Rattle.model.specs.WellFormed.{Sound, Placed, WellFormed}
-use Rattle.model.specs.declared.Resource.{Resource}
-use Rattle.model.specs.declared.Resource.the-variants.{Pages, Processes}
-use Rattle.model.proofs.FunctionLaws.{split, whether, clash, weigh-yes, weigh-no, weigh-zero, upd-same, upd-other, upd-map, upd-keeps}
+use Rattle.model.specs.WellFormed.{Sound, Placed}
+use Rattle.model.specs.declared.Resource.the-variants.{Pages}
+use Rattle.model.proofs.FunctionLaws.{whether, clash, weigh-yes, weigh-no, upd-same, upd-other, upd-map, upd-keeps}
 use Rattle.model.proofs.ChainLaws.{inside-self, inside-parent, inside-after-make, inside-after-remove}
 use Rattle.model.proofs.RuleLaws.{sound-after-make}
 use Rattle.model.proofs.AmountLaws.{usage-same, usage-after-charge, usage-after-release, own-within-usage, amount-same, amount-dead, amount-after-make, amount-after-remove}

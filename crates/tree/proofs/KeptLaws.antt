@@ -1,20 +1,19 @@
 -- What follows of words that keep the invariant: sums and own pages are small, a parent has a row, chains can be searched and
 -- adjusted, and room found by the running sums is room by the definitions. Assumes nothing.
-use Prim.Native.Nat.{ℕ, zero, suc, _+_, _≤_, _<_}
+use Prim.Native.Nat.{ℕ, zero, suc, _≤_, _<_}
 use native.Mathlib.Omega.{arith}
 use mathlib.Core.Bool.{Bool, true, false}
-use mathlib.Core.List.{List, [], _∷_}
+use mathlib.Core.List.{List}
 use mathlib.Core.Path.{_≡_, ap₂, _∙_, fun-ext}
-use Rattle.model.specs.Functions.{pick, weigh, sum, member}
+use Rattle.model.specs.Functions.{weigh, sum, member}
 use Rattle.model.specs.Sizes.{groups, processes, largestMachine}
 use Rattle.model.specs.Tree.{Tree, Core, Place, nowhere, at, groupOf, cores, lives, parents, places}
 use Rattle.model.specs.Hierarchy.{chain, inside, held, ownPages, headcount, usage, population, amount, factsOf}
-use Rattle.model.specs.Rooms.{Room, full, over, actingLimit, consult, roomFor}
+use Rattle.model.specs.Rooms.{Room, actingLimit, consult, roomFor}
 use Rattle.model.specs.WellFormed.{Sound, WellFormed}
 use Rattle.model.specs.declared.Resource.{Resource}
 use Rattle.model.specs.declared.Resource.the-variants.{Pages, Processes}
-use Rattle.model.specs.declared.Limit.{Limit}
-use Rattle.model.proofs.FunctionLaws.{split, whether, weigh-yes, weigh-no, member-here, member-there}
+use Rattle.model.proofs.FunctionLaws.{split, whether, weigh-yes, weigh-no}
 use Rattle.model.proofs.ChainLaws.{inside-live, root-inside}
 use Rattle.model.proofs.AmountLaws.{own-within-usage}
 use Rattle.tree.specs.Layout.{view, sumIn}

@@ -7,7 +7,7 @@ use mathlib.Core.List.{List}
 use mathlib.Core.Logic.{_≢_}
 use mathlib.Core.Path.{_≡_, ap, sym, _∙_}
 use lib.Dec.{eqb}
-use lib.ListN.{length, getD}
+use lib.ListN.{getD}
 use lib.Seq.{ext-getD}
 use borrow.Author.Tests.{eqb-true, eqb-false}
 use Rattle.model.specs.Sizes.{groups, processes}
@@ -88,24 +88,55 @@ module _ (v w : ℕ → ℕ) (a : SpareRow v) (b : SpareRow w) (sums : (c : Coun
 
   places-same : Below (λ k. v k ≡ w k) used
   unfolding Below
-  places-same =
-      (limit-word _ _ (ap (λ (g : Group). g .core .limit Processes) e),
-      (limit-word _ _ (ap (λ (g : Group). g .core .limit Pages) e),
-      (ap (λ (g : Group). g .core .own) e,
-      (ap (λ (g : Group). g .cpu .period) e,
-      (limit-word _ _ (ap (λ (g : Group). g .cpu .quota) e),
-      (ap (λ (g : Group). g .cpu .weight) e,
-      (ap (λ (g : Group). g .owner) e,
-      (ap (λ (g : Group). g .depth) e,
-      (ap (λ (g : Group). g .core .parent) e,
-      (flag (setField Pids) (omega arith) (omega arith) (ap (λ (g : Group). g .set Pids) e),
-      (flag (setField Memory) (omega arith) (omega arith) (ap (λ (g : Group). g .set Memory) e),
-      (flag (setField Cpu) (omega arith) (omega arith) (ap (λ (g : Group). g .set Cpu) e),
-      (flag liveField (omega arith) (omega arith) (ap (λ (g : Group). g .core .live) e),
-      (sums Groups,
-      (sums (Of Processes),
-      (sums (Of Pages),
-      tt))))))))))))))))
+  places-same = (
+    limit-word _ _ (ap (λ (g : Group). g .core .limit Processes) e),
+    (
+      limit-word _ _ (ap (λ (g : Group). g .core .limit Pages) e),
+      (
+        ap (λ (g : Group). g .core .own) e,
+        (
+          ap (λ (g : Group). g .cpu .period) e,
+          (
+            limit-word _ _ (ap (λ (g : Group). g .cpu .quota) e),
+            (
+              ap (λ (g : Group). g .cpu .weight) e,
+              (
+                ap (λ (g : Group). g .owner) e,
+                (
+                  ap (λ (g : Group). g .depth) e,
+                  (
+                    ap (λ (g : Group). g .core .parent) e,
+                    (
+                      flag (setField Pids) (omega arith) (omega arith) (ap (λ (g : Group). g .set Pids) e),
+                      (
+                        flag (setField Memory) (omega arith) (omega arith) (ap (λ (g : Group). g .set Memory) e),
+                        (
+                          flag (setField Cpu) (omega arith) (omega arith) (ap (λ (g : Group). g .set Cpu) e),
+                          (
+                            flag liveField (omega arith) (omega arith) (ap (λ (g : Group). g .core .live) e),
+                            (
+                              sums Groups,
+                              (
+                                sums (Of Processes),
+                                (
+                                  sums (Of Pages),
+                                  tt,
+                                ),
+                              ),
+                            ),
+                          ),
+                        ),
+                      ),
+                    ),
+                  ),
+                ),
+              ),
+            ),
+          ),
+        ),
+      ),
+    ),
+  )
 
   row-same : (k : ℕ) → k < rowWords → v k ≡ w k
   row-same k l =

@@ -47,22 +47,22 @@ on-at c = c .before .before .before
 
 -- all the checks, and that the first n pass
 abbrev all : tie.Start → List Check
-all s = checks (factsOf (view (s .args .t .now))) (writeSetting (s .args .user) (s .args .g .0) (s .args .file .now) (s .args .line .now))
+all s = checks (factsOf (view (s .args .tree .now))) (writeSetting (s .args .user) (s .args .group .0) (s .args .file .now) (s .args .line .now))
 
 abbrev Past : ℕ → tie.Start → Type 0
 Past n s = Passed (all s) (drop n (all s))
 
 abbrev tree-of : tie.After-known-told → Tree
-tree-of c = view (begin c .args .t .now)
+tree-of c = view (begin c .args .tree .now)
 
 abbrev group-of : tie.After-known-told → ℕ
-group-of c = begin c .args .g .0
+group-of c = begin c .args .group .0
 
 ranged : (c : tie.Else1) → Past 1 (start c)
 unfolding checks
 ranged c = not-barred begun refl (lt-leb _ _ (c .if1 .left))
 
-alive : (c : tie.Else2) → lives (view (start (ranged-at c) .args .t .now)) (start (ranged-at c) .args .g .0) ≡ true
+alive : (c : tie.Else2) → lives (view (start (ranged-at c) .args .tree .now)) (start (ranged-at c) .args .group .0) ≡ true
 alive c = sym (c .before .is-live .ensures) ∙ not-false _ (c .if2 .left)
 
 live : (c : tie.Else2) → Past 2 (start (ranged-at c))
@@ -135,7 +135,7 @@ setting-controller-requires c κs = search needs
 is-on-requires : tie.Need-is-on-requires
 is-on-requires c κs =
     let s = begin (c .before) in
-    live-row (s .args .t .now) (s .pre) (s .args .g .0) (alive (live-at (c .before)))
+    live-row (s .args .tree .now) (s .pre) (s .args .group .0) (alive (live-at (c .before)))
 
 -- Enoent: its controller is not on
 returns-4 : tie.Need-returns-4
@@ -148,7 +148,7 @@ parent-requires c κs = search needs
 may-write-requires : tie.Need-may-write-requires
 may-write-requires c κs =
     let n = named-at (c .before) in
-    parent-low (begin n .args .t .now) (begin n .pre) _ _ (alive (live-at n)) (c .parent .ensures)
+    parent-low (begin n .args .tree .now) (begin n .pre) _ _ (alive (live-at n)) (c .parent .ensures)
 
 -- Eacces: the parent's owner may, and the group's own may not
 returns-5 : tie.Need-returns-5

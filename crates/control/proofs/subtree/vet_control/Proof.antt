@@ -47,7 +47,7 @@ there-at c = c .before .before .before
 
 -- all the checks, and that the first n pass
 abbrev all : tie.Start → List Check
-all s = checks (factsOf (view (s .args .t .now))) (writeControl (s .args .user) (s .args .g .0) (s .args .line .now))
+all s = checks (factsOf (view (s .args .tree .now))) (writeControl (s .args .user) (s .args .group .0) (s .args .line .now))
 
 abbrev Past : ℕ → tie.Start → Type 0
 Past n s = Passed (all s) (drop n (all s))
@@ -56,7 +56,7 @@ ranged : (c : tie.Else1) → Past 1 (start c)
 unfolding checks
 ranged c = not-barred begun refl (lt-leb _ _ (c .if1 .left))
 
-alive : (c : tie.Else2) → lives (view (start (ranged-at c) .args .t .now)) (start (ranged-at c) .args .g .0) ≡ true
+alive : (c : tie.Else2) → lives (view (start (ranged-at c) .args .tree .now)) (start (ranged-at c) .args .group .0) ≡ true
 alive c = sym (c .before .is-live .ensures) ∙ not-false _ (c .if2 .left)
 
 live : (c : tie.Else2) → Past 2 (start (ranged-at c))
@@ -77,10 +77,10 @@ good c = not-barred (short (short-at c)) (c .before .has-bad-word .ensures) (c .
 
 -- what is found of the wishes is so of the line
 abbrev tree-of : tie.After-asks → Tree
-tree-of a = view (begin (a .before) .args .t .now)
+tree-of a = view (begin (a .before) .args .tree .now)
 
 abbrev group-of : tie.After-asks → ℕ
-group-of a = begin (a .before) .args .g .0
+group-of a = begin (a .before) .args .group .0
 
 abbrev line-of : tie.After-asks → List ℕ
 line-of a = begin (a .before) .args .line .now
@@ -152,7 +152,7 @@ asks-requires : tie.Need-asks-requires
 asks-requires c κs = search needs
 
 -- a live group's parent has a row
-above : (c : tie.Else5) → HasParent (begin c .args .t .now) (begin c .args .g .0)
+above : (c : tie.Else5) → HasParent (begin c .args .tree .now) (begin c .args .group .0)
 above c = live-row _ (begin c .pre) _ (alive (live-at (may-at (short-at c))))
 
 for-each-requires : tie.Need-for-each-requires

@@ -1,6 +1,5 @@
 -- `tree::counter::adjust_up` meets its contract. The invariant: the groups passed so far are adjusted, and those above are as they
 -- were. The measure is the depth of the group reached. Assumes nothing.
-use mathlib.Core.Path.{refl}
 use Rattle.model.specs.Tree.{depths}
 use Rattle.tree.specs.Layout.{view}
 use Rattle.tree.proofs.AdjustLaws.{Rising, rising-start, rising-low, rising-room, rising-enough, rising-next, rising-less, rising-end}
