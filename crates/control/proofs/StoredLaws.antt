@@ -1,18 +1,19 @@
 -- The stores of the two calls leave what the definitions say: neither changes what is counted. Assumes nothing.
-use Prim.Native.Nat.{ℕ}
+use Prim.Native.Nat.{ℕ, _<_}
 use mathlib.Core.Bool.{true}
 use mathlib.Core.List.{List, [], _∷_}
 use mathlib.Core.Option.{Option, some}
 use mathlib.Core.Path.{_≡_, refl, ap, ap₂, sym, _∙_}
-use lib.ListN.{drop}
-use Rattle.model.specs.Tree.{Tree, Controls, lives}
-use Rattle.model.specs.Rules.{leaving}
-use Rattle.model.specs.Checks.{bar, need, first, Pass}
+use borrow.Author.Tests.{lt-leb}
+use Rattle.model.specs.Sizes.{groups}
+use Rattle.model.specs.Tree.{Tree, Controls, lives, parents}
+use Rattle.model.specs.Rules.{mayWrite, leaving}
+use Rattle.model.specs.Checks.{Check, bar, need, first, Pass}
 use Rattle.model.specs.Functions.{known, passes}
-use Rattle.model.specs.Hierarchy.{factsOf}
+use Rattle.model.specs.Hierarchy.{on}
 use Rattle.model.specs.Text.{tooLong, lineWords}
 use Rattle.model.specs.Names.{settingNamed}
-use Rattle.model.specs.Settings.{valueOf, inRange}
+use Rattle.model.specs.Settings.{settingController, valueOf, inRange}
 use Rattle.model.specs.Calls.{writeControl, writeSetting, settingValue, lineValue, checks, verdict}
 use Rattle.model.specs.Effects.{newSet, controlled, written, effect}
 use Rattle.model.specs.declared.Setting.{Setting}
@@ -33,35 +34,39 @@ use Rattle.tree.proofs.CallLaws.{call-done, applied-wrote}
 use Rattle.control.specs.Stores.{changedAt}
 use Rattle.control.specs.Values.{Settable, valueChecks, Gives}
 use Rattle.control.specs.declared.setting.Given.{Given}
-use Rattle.control.proofs.VetLaws.{Passed}
 use Rattle.control.proofs.WroteLaws.{wrote-as}
 
 -- ---- a setting
 
 -- what a write is given, found another way
 gives-as : {a b : Answer} {o p : Option SettingValue} → a ≡ b → o ≡ p → (r : Given) → Gives a o r → Gives b p r
-gives-as e f (Given.Value v) g = (sym e ∙ g .0, sym f ∙ g .1)
-gives-as e f (Given.Refused x) g = sym e ∙ g
+gives-as e f (Given.Value v) g = (g .0 ∙ e, sym f ∙ g .1)
+gives-as e f (Given.Refused x) g = g ∙ e
 
--- the checks of the line are those that are left, once its setting is known
-pub gives-setting : (t : Tree) (user g : ℕ) (file line : List ℕ) (s : Setting) → settingNamed file ≡ some s
-    → let all = checks (factsOf t) (writeSetting user g file line) in Passed all (drop 5 all)
+-- the checks of the line are those that are left, once the others pass
+pub gives-setting : (t : Tree) (user g : ℕ) (file line : List ℕ) (s : Setting) → settingNamed file ≡ some s → g < groups → lives t g ≡ true
+    → passes (settingNamed file) (λ x. on t (settingController x) g) ≡ true → mayWrite t user (parents t g) ≡ true
     → (r : Given) → Gives (first (valueChecks s line)) (valueOf s (lineWords line)) r
     → Gives (verdict t (writeSetting user g file line)) (lineValue file line) r
-unfolding verdict checks valueChecks
-gives-setting t user g file line s e p r h =
-    let n : settingValue (some s) line ≡ lineValue file line = ap (λ o. settingValue o line) (sym e) in
-    gives-as (ap (λ o. first (bar (tooLong line) Einval ∷ need (known o) Einval ∷ need (passes o inRange) Erange ∷ [])) n ∙ sym (p .same)) n r h
+unfolding verdict checks valueChecks first
+gives-setting t user g file line s e n l o m r h =
+    let v : settingValue (some s) line ≡ lineValue file line = ap (λ x. settingValue x line) (sym e) in
+    let left : verdict t (writeSetting user g file line) ≡ first (checksOf (lineValue file line)) = rw (lt-leb groups g n, l, ap known e, o, m) in
+    gives-as (ap (λ x. first (checksOf x)) v ∙ sym left) v r h
+  where
+    -- the checks of a line by its value
+    checksOf : Option SettingValue → List Check
+    checksOf x = bar (tooLong line) Einval ∷ need (known x) Einval ∷ need (passes x inRange) Erange ∷ []
 
 module _ (xs : List ℕ) (k : Kept xs) (user g : ℕ) (file line : List ℕ) (value : SettingValue)
     (given : Gives (verdict (view xs) (writeSetting user g file line)) (lineValue file line) (Given.Value value)) where
   setting-live : lives (view xs) g ≡ true
   unfolding checks Pass
-  setting-live = let c = passed (view xs) (writeSetting user g file line) (given .0) in (search)
+  setting-live = let c = passed (view xs) (writeSetting user g file line) (sym (given .0)) in (search)
 
   setting-range : passes (lineValue file line) inRange ≡ true
   unfolding checks Pass
-  setting-range = let c = passed (view xs) (writeSetting user g file line) (given .0) in (search)
+  setting-range = let c = passed (view xs) (writeSetting user g file line) (sym (given .0)) in (search)
 
   pub settable : Settable xs g value
   settable =
@@ -72,8 +77,8 @@ module _ (xs : List ℕ) (k : Kept xs) (user g : ℕ) (file line : List ℕ) (va
   unfolding effect
   setting-done ys w =
       let o = lineValue file line in
-      call-done xs k (writeSetting user g file line) (given .0) ys _ _
-      (applied-wrote xs k (writeSetting user g file line) (given .0) ys
+      call-done xs k (writeSetting user g file line) (sym (given .0)) ys _ _
+      (applied-wrote xs k (writeSetting user g file line) (sym (given .0)) ys
       (wrote-as (ap (λ x. changedAt (view xs) g (written x)) (sym (given .1))) w)
       (record {
         parent = part-after-setting (view xs) g o (λ x. x .core .parent) (λ _ _. refl);
@@ -81,7 +86,7 @@ module _ (xs : List ℕ) (k : Kept xs) (user g : ℕ) (file line : List ℕ) (va
         own = part-after-setting (view xs) g o (λ x. x .core .own) (λ _ _. refl);
       })
       refl)
-      (sym (given .0))
+      (given .0)
 
 -- ---- a control line
 

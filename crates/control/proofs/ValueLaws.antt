@@ -1,5 +1,5 @@
 -- A value: what can be stored of it, and what its stores make of a group. Assumes nothing.
-use Prim.Native.Nat.{ℕ, _+_, _<_}
+use Prim.Native.Nat.{ℕ}
 use native.Mathlib.Omega.{arith}
 use mathlib.Core.Bool.{true}
 use mathlib.Core.List.{List}
@@ -7,7 +7,7 @@ use mathlib.Core.Option.{some}
 use mathlib.Core.Path.{_≡_, refl}
 use Rattle.model.specs.Functions.{All}
 use Rattle.model.specs.Tree.{Group, CpuSettings, withLimit, withSettings}
-use Rattle.model.specs.Settings.{figureIn, largest, inRange, toAmount, mapLimit, put, shown}
+use Rattle.model.specs.Settings.{figureIn, quotaIn, largest, inRange, toAmount, mapLimit, put, shown}
 use Rattle.model.specs.Effects.{written}
 use Rattle.model.specs.declared.Resource.{Resource}
 use Rattle.model.specs.declared.Resource.the-variants.{Pages, Processes}
@@ -25,9 +25,9 @@ use Rattle.control.specs.Values.{Settable}
 
 -- ---- what can be stored
 
-storable-in : (low high : ℕ) (l : Limit) → high + 1 < 18446744073709551616 → figureIn low high l ≡ true → Storable l
-storable-in low high NoLimit h e = tt
-storable-in low high (Figure n) h e = omega (arith, between-le low high n e)
+storable-in : (q : Limit) → quotaIn q ≡ true → Storable q
+storable-in NoLimit e = tt
+storable-in (Figure n) e = omega (arith, between-le 1000 1000000000 n e)
 
 pub storable-amount : (r : Resource) (l m : Limit) → m ≡ mapLimit (toAmount r) l → figureIn 0 (largest r) l ≡ true → Storable m
 storable-amount r l m e h = rw e (go r l h)
@@ -47,15 +47,15 @@ module _ (xs : List ℕ) (g : ℕ) (value : SettingValue) (k : Settable xs g val
   storable-kept q e =
       let c : CpuSettings = view xs .group g .cpu in
       rw e
-      (storable-in 1000 1000000000 (c .quota) (omega arith)
+      (storable-in (c .quota)
       (range-of-quota (c .quota) (c .period) (k .at .kept .formed .ranges .within g (k .at .live) .values CpuMax .0)))
 
   pub storable-quota : (q : Limit) → value ≡ Quota q → Storable q
   unfolding inRange
-  storable-quota q e = storable-in 1000 1000000000 q (omega arith) (rw e at (k .within))
+  storable-quota q e = storable-in q (rw e at (k .within))
 
   pub storable-bandwidth : (q : Limit) (p : ℕ) → value ≡ Bandwidth q p → Storable q
-  storable-bandwidth q p e = storable-in 1000 1000000000 q (omega arith) (range-of-quota q p (rw e at (k .within)))
+  storable-bandwidth q p e = storable-in q (range-of-quota q p (rw e at (k .within)))
 
   pub figure-in : (r : Resource) (l : Limit) → value ≡ Maximum r l → figureIn 0 (largest r) l ≡ true
   unfolding inRange

@@ -27,8 +27,8 @@ valueChecks s line =
 
 -- after success the value of the line, else the refusal
 abbrev pub Gives : Answer → Option SettingValue → Given → Type 0
-Gives answer value (Given.Value v) = (answer ≡ Answer.Done) × (value ≡ some v)
-Gives answer value (Given.Refused e) = answer ≡ Answer.Refused e
+Gives answer value (Given.Value v) = (Answer.Done ≡ answer) × (value ≡ some v)
+Gives answer value (Given.Refused e) = Answer.Refused e ≡ answer
 
 -- what a write is vetted to
 abbrev pub Vetted : List ℕ → ℕ → ℕ → List ℕ → List ℕ → Given → Type 0

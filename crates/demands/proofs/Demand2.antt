@@ -130,7 +130,9 @@ module _ {xs : List ℕ} {n k : ℕ} {buffer bytes : List ℕ} (g : ℕ) (s : Se
       let back = demands .second .writeBack t (kept .formed) in
       rw delivered-text
       (record {
-        each = all-map _ _ (linesOf text) (λ line d. (restores user line (d .0), restores user (body line) (d .1))) (back .each user g s read-lives read-on may);
+        each =
+            all-map _ _ (linesOf text) (λ line d. (restores user line (d .0), restores user (body line) (d .1)))
+            (back .each user g s read-lives read-on may);
         one = back .one g s;
       })
 

@@ -155,7 +155,8 @@ module _ (t : Tree) (b : Book) (s : State t b) (g : ℕ) where
     by-value none p k = clash false k refl
     by-value (some (Weight n)) p k = other-value (Weight n) p (λ x. absurd x) (λ x. let z : _≡_ {A = ℕ} 0 1 = cc in absurd (omega arith))
     by-value (some (Quota q)) p k = other-value (Quota q) p (λ x. absurd x) (λ x. let z : _≡_ {A = ℕ} 0 1 = cc in absurd (omega arith))
-    by-value (some (Bandwidth q o)) p k = other-value (Bandwidth q o) p (λ x. absurd x) (λ x. let z : _≡_ {A = ℕ} 0 1 = cc in absurd (omega arith))
+    by-value (some (Bandwidth q o)) p k =
+        other-value (Bandwidth q o) p (λ x. absurd x) (λ x. let z : _≡_ {A = ℕ} 0 1 = cc in absurd (omega arith))
     by-value (some (Maximum Pages l)) p k =
         whether h g (λ d. this-value l p d) (λ ne. other-value (Maximum Pages l) p (λ _. ne) (λ _. ne))
     by-value (some (Maximum Processes l)) p k =

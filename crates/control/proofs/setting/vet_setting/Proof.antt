@@ -1,27 +1,26 @@
--- `control::setting::vet_setting` meets its contract: each check is made where those before it pass, and the checks of the line
--- are those that are left. Assumes nothing.
+-- `control::setting::vet_setting` meets its contract: its tests in their order are the definitions' checks, and those of the line
+-- are the ones that are left. Assumes nothing.
 use Prim.Native.Nat.{ℕ}
-use mathlib.Core.Bool.{true}
-use mathlib.Core.List.{List}
+use mathlib.Core.Bool.{Bool, true}
 use mathlib.Core.Option.{some}
-use mathlib.Core.Path.{_≡_, refl, ap, sym, _∙_}
-use lib.ListN.{drop}
-use borrow.Author.Tests.{le-leb, lt-leb, not-true, not-false}
+use mathlib.Core.Path.{_≡_, ap, sym, _∙_}
+use borrow.Author.Tests.{lt-leb, not-true, not-false}
 use borrow.Author.Needs.{needs}
 use Rattle.model.specs.Functions.{known, passes}
-use Rattle.model.specs.Checks.{Check}
+use Rattle.model.specs.Sizes.{groups}
+use Rattle.model.specs.Checks.{lacking, past, met}
 use Rattle.model.specs.Names.{settingNamed}
 use Rattle.model.specs.Tree.{Tree, lives, parents}
-use Rattle.model.specs.Hierarchy.{factsOf}
-use Rattle.model.specs.Hierarchy as H
+use Rattle.model.specs.Hierarchy.{on}
 use Rattle.model.specs.Settings.{settingController}
 use Rattle.model.specs.Rules.{mayWrite}
-use Rattle.model.specs.Calls.{writeSetting, checks, verdict}
-use Rattle.model.proofs.VetLaws.{may-write-parent}
+use Rattle.model.specs.Calls.{checks, verdict}
+use Rattle.model.proofs.CheckLaws.{says-first}
+use Rattle.model.proofs.VetLaws.{tested, may-write-parent, vets}
 use Rattle.text.proofs.NameLaws.{is-setting, no-setting}
 use Rattle.tree.specs.Layout.{view}
 use Rattle.tree.proofs.KeptLaws.{live-row, parent-low}
-use Rattle.control.proofs.VetLaws.{Passed, begun, not-barred, not-lacking, is-barred, is-lacking, setting-on}
+use Rattle.control.proofs.VetLaws.{setting-on}
 use Rattle.control.proofs.StoredLaws.{gives-setting}
 use Rattle.control.proofs.setting.vet_setting.Statement.{statement}
 use Rattle.control.proofs.setting.vet_setting.Tie as tie
@@ -45,62 +44,39 @@ named-at c = c .before .before .before
 abbrev on-at : tie.Else4 → tie.Else3
 on-at c = c .before .before .before
 
--- all the checks, and that the first n pass
-abbrev all : tie.Start → List Check
-all s = checks (factsOf (view (s .args .tree .now))) (writeSetting (s .args .user) (s .args .group .0) (s .args .file .now) (s .args .line .now))
-
-abbrev Past : ℕ → tie.Start → Type 0
-Past n s = Passed (all s) (drop n (all s))
-
 abbrev tree-of : tie.After-known-told → Tree
 tree-of c = view (begin c .args .tree .now)
 
 abbrev group-of : tie.After-known-told → ℕ
 group-of c = begin c .args .group .0
 
-ranged : (c : tie.Else1) → Past 1 (start c)
-unfolding checks
-ranged c = not-barred begun refl (lt-leb _ _ (c .if1 .left))
-
 alive : (c : tie.Else2) → lives (view (start (ranged-at c) .args .tree .now)) (start (ranged-at c) .args .group .0) ≡ true
-alive c = sym (c .before .is-live .ensures) ∙ not-false _ (c .if2 .left)
-
-live : (c : tie.Else2) → Past 2 (start (ranged-at c))
-unfolding checks
-live c = not-lacking (ranged (ranged-at c)) refl (alive c)
+alive c = tested _ _ _ (c .before .is-live .ensures) (not-false _ (c .if2 .left))
 
 -- the setting of that name
 setting : (c : tie.After-known-told) → settingNamed (begin c .args .file .now) ≡ some (c .before .named .given .0 .0)
 setting c = is-setting _ _ (sym (c .before .named .given .1) ∙ c .before .before .before .setting-named .ensures)
 
-named : (c : tie.After-known-told) → Past 3 (begin c)
-unfolding checks
-named c = not-lacking (live (live-at c)) refl (ap known (setting c))
-
 on-found : (c : tie.After-is-on) → let n = c .before .before in
-    c .is-on .result ≡ passes (settingNamed (begin n .args .file .now)) (λ x. H.on (tree-of n) (settingController x) (group-of n))
+    c .is-on .result ≡ passes (settingNamed (begin n .args .file .now)) (λ x. on (tree-of n) (settingController x) (group-of n))
 on-found c =
     let n = c .before .before in
     setting-on (tree-of n) (group-of n) _ _ _ _ (setting n) (c .before .setting-controller .ensures) (c .is-on .ensures)
 
-on : (c : tie.Else3) → Past 4 (begin (named-at c))
-unfolding checks
-on c = not-lacking (named (named-at c)) (on-found (c .before)) (not-false _ (c .if3 .left))
+on-here : (i : tie.Else3) → let n = named-at i in
+    passes (settingNamed (begin n .args .file .now)) (λ x. on (tree-of n) (settingController x) (group-of n)) ≡ true
+on-here i = tested _ _ _ (on-found (i .before)) (not-false _ (i .if3 .left))
 
-may-found : (c : tie.After-may-write) → let n = named-at (c .before .before) in
-    c .may-write .result ≡ mayWrite (tree-of n) (begin n .args .user) (parents (tree-of n) (group-of n))
-may-found c =
+may-found : (c : tie.After-may-write) (d : Bool) → c .may-write .result ≡ d → let n = named-at (c .before .before) in
+    mayWrite (tree-of n) (begin n .args .user) (parents (tree-of n) (group-of n)) ≡ d
+may-found c d h =
     let n = named-at (c .before .before) in
-    sym (may-write-parent (tree-of n) (begin n .args .user) (group-of n) _ _ _ (c .may-write .ensures) (c .before .parent .ensures) refl)
-
-may : (c : tie.Else4) → Past 5 (begin (named-at (on-at c)))
-unfolding checks
-may c = not-lacking (on (on-at c)) (may-found (c .before)) (not-false _ (c .if4 .left))
+    may-write-parent (tree-of n) (begin n .args .user) (group-of n) _ _ _ (c .may-write .ensures) (c .before .parent .ensures) h
 
 -- Einval: no group number
 returns : tie.Need-returns
 unfolding verdict checks
-returns c = sym (is-barred begun refl (le-leb _ _ (c .if1 .taken)))
+returns c = search vets depth 12 fits 4000
 
 is-live-requires : tie.Need-is-live-requires
 is-live-requires c κs = search needs
@@ -108,7 +84,7 @@ is-live-requires c κs = search needs
 -- Enoent: not live
 returns-2 : tie.Need-returns-2
 unfolding verdict checks
-returns-2 c = sym (is-lacking (ranged (c .before .before)) (c .before .is-live .ensures) (not-true _ (c .if2 .taken)))
+returns-2 c = search vets depth 12 fits 4000
 
 setting-named-requires : tie.Need-setting-named-requires
 setting-named-requires c κs = search needs
@@ -125,9 +101,8 @@ unfolding verdict checks
 returns-3 c =
     let n = c .before .before in
     let file = start (ranged-at (n .before)) .args .file .now in
-    sym
-    (is-lacking (live (n .before)) refl
-    (ap known (no-setting (settingNamed file) (sym (c .enum-told .given .1) ∙ n .setting-named .ensures))))
+    let k = ap known (no-setting (settingNamed file) (sym (c .enum-told .given .1) ∙ n .setting-named .ensures)) in
+    search vets depth 12 fits 4000
 
 setting-controller-requires : tie.Need-setting-controller-requires
 setting-controller-requires c κs = search needs
@@ -140,7 +115,10 @@ is-on-requires c κs =
 -- Enoent: its controller is not on
 returns-4 : tie.Need-returns-4
 unfolding verdict checks
-returns-4 c = sym (is-lacking (named (c .before .before .before)) (on-found (c .before)) (not-true _ (c .if3 .taken)))
+returns-4 c =
+    let k = ap known (setting (c .before .before .before)) in
+    let o = on-found (c .before) in
+    search vets depth 12 fits 4000
 
 parent-requires : tie.Need-parent-requires
 parent-requires c κs = search needs
@@ -153,7 +131,15 @@ may-write-requires c κs =
 -- Eacces: the parent's owner may, and the group's own may not
 returns-5 : tie.Need-returns-5
 unfolding verdict checks
-returns-5 c = sym (is-lacking (on (c .before .before .before)) (may-found (c .before)) (not-true _ (c .if4 .taken)))
+returns-5 c =
+    let i = c .before .before .before in
+    let n = named-at i in
+    says-first
+    (past (lt-leb groups (group-of n) (ranged-at (live-at n) .if1 .left))
+    (met (alive (live-at n))
+    (met (ap known (setting n))
+    (met (on-here i)
+    (lacking (may-found (c .before) _ (not-true _ (c .if4 .taken))))))))
 
 vet-value-requires : tie.Need-vet-value-requires
 vet-value-requires c κs = search needs
@@ -163,7 +149,9 @@ returns-6 : tie.Need-returns-6
 returns-6 c =
     let m = c .before in
     let n = named-at (on-at m) in
-    gives-setting (tree-of n) (begin n .args .user) (group-of n) (begin n .args .file .now) (begin n .args .line .now) _ (setting n) (may m)
+    gives-setting (tree-of n) (begin n .args .user) (group-of n) (begin n .args .file .now) (begin n .args .line .now) _
+    (setting n) (ranged-at (live-at n) .if1 .left) (alive (live-at n)) (on-here (on-at m))
+    (may-found (m .before) _ (not-false _ (m .if4 .left)))
     (c .vet-value .result) (c .vet-value .ensures)
 
 pub vet-setting-spec : {M : Type 1} → statement M

@@ -46,7 +46,7 @@ returns c =
     let v = c .before .before .before in
     let s = start v in
     let g = given-as v (c .before .given .given .1) in
-    call-refused (s .args .tree .now) (s .pre) (call s) _ _ _ g (sym g)
+    call-refused (s .args .tree .now) (s .pre) (call s) _ _ _ (sym g) g
 
 -- done
 returns-2 : tie.Need-returns-2

@@ -30,7 +30,8 @@ returns-2 c =
     let n = c .before .before in
     let e = n .before in
     let a = e .before .before .before .before .args in
-    limit-number (a .word .now) (sym (e .before .is-same .ensures) ∙ e .if1 .left) _ (sym (c .enum-told .given .1) ∙ n .read-number .ensures)
+    limit-number (a .word .now) (sym (e .before .is-same .ensures) ∙ e .if1 .left) _
+    (sym (c .enum-told .given .1) ∙ n .read-number .ensures)
 
 -- a figure
 returns-3 : tie.Need-returns-3
@@ -38,7 +39,8 @@ returns-3 c =
     let n = c .before .before .before in
     let e = n .before in
     let a = e .before .before .before .before .args in
-    limit-number (a .word .now) (sym (e .before .is-same .ensures) ∙ e .if1 .left) _ (sym (c .before .number .given .1) ∙ n .read-number .ensures)
+    limit-number (a .word .now) (sym (e .before .is-same .ensures) ∙ e .if1 .left) _
+    (sym (c .before .number .given .1) ∙ n .read-number .ensures)
 
 pub read-limit-spec : {M : Type 1} → statement M
 read-limit-spec =
