@@ -42,7 +42,7 @@ enum Given {
     Refused(Errno),
 }
 
-// Einval: too long, or malformed. Erange: a figure outside its range.
+// 22 too long, or malformed; 34 a figure outside its range.
 fn vet_value(setting: Setting, line: &[u8]) -> Given
     ensures { λ r. ⌜ Gives (first (valueChecks setting (now (line .entry)))) (valueOf setting (lineWords (now (line .entry)))) r ⌝ }
 {
@@ -61,8 +61,8 @@ fn vet_value(setting: Setting, line: &[u8]) -> Given
     }
 }
 
-// Einval: no group number. Enoent: not live, no such setting, its controller not on. Eacces: may not write the parent. Then as
-// the line's value.
+// 22 the group's number out of range; 2 not live, no such setting, or its controller not on; 13 the user may not write the parent;
+// then what the line's value is refused with.
 fn vet_setting(tree: &Tree, user: u32, group: GroupId, file: &[u8], line: &[u8]) -> Given
     requires { ⌜ Kept (now tree) ⌝ }
     ensures { λ r. ⌜ Vetted (now (tree .entry)) user (group .0) (now (file .entry)) (now (line .entry)) r ⌝ }

@@ -37,9 +37,8 @@ fn joins_populated(t: &Tree, g: GroupId, wishes: Wishes) -> bool
     has_process(t, g)
 }
 
-// Einval: no group number. Enoent: not live. Eacces: may not write the group. Einval: a line that is too long, or a bad
-// word. Enoent: a wanted controller not available. Ebusy: a controller that leaves is in a child's set, or the
-// inner-process rule.
+// 22 the group's number out of range; 2 not live; 13 the user may not write it; 22 a line that is too long, or a bad word; 2 a
+// wanted controller not available; 16 a controller that leaves is in a child's set, or the inner-process rule.
 fn vet_control(tree: &Tree, user: u32, group: GroupId, line: &[u8]) -> Answer
     requires { ⌜ Kept (now tree) ⌝ }
     ensures { λ r. ⌜ r ≡ verdict (view (now (tree .entry))) (writeControl user (group .0) (now (line .entry))) ⌝ }

@@ -67,8 +67,8 @@ fn render(t: &Tree, g: GroupId, file: File, out: &mut [u8]) -> usize
     }
 }
 
-// A file of a group. 22: the number is out of range. 2: the group is not live, or has no such file. 28: the reply is shorter
-// than the text. A refusal leaves the reply as it was.
+// A file of a group. 22 its number out of range; 2 not live, or no such file there; 28 the reply shorter than the text. A refusal
+// leaves the reply as it was.
 pub fn read(tree: &Tree, group: GroupId, file: &[u8], reply: &mut [u8]) -> ReadAnswer
     requires { ⌜ Kept (now tree) ⌝ }
     ensures { λ r. ⌜ Delivering (now (tree .entry)) (read (group .0) (now (file .entry)) (now (reply .entry))) r (now (reply .exit)) ⌝ }
@@ -91,8 +91,7 @@ pub fn read(tree: &Tree, group: GroupId, file: &[u8], reply: &mut [u8]) -> ReadA
     deliver(reply, &scratch[..end])
 }
 
-// The membership line of a process. 3: it is not live. 28: the reply is shorter than the line. A refusal leaves the reply as
-// it was.
+// The membership line of a process. 3 not live; 28 the reply shorter than the line. A refusal leaves the reply as it was.
 pub fn membership(tree: &Tree, process: ProcessId, reply: &mut [u8]) -> ReadAnswer
     requires { ⌜ Kept (now tree) ⌝ }
     ensures { λ r. ⌜ Delivering (now (tree .entry)) (membership (process .0) (now (reply .entry))) r (now (reply .exit)) ⌝ }

@@ -1,6 +1,6 @@
 -- What an accepted make finds, and that its stores give the definitions' tree: no amount changes, nothing is inside the group that
 -- is made, and it is counted above. Assumes nothing.
-use Prim.Native.Nat.{ℕ, suc, _+_, _<_}
+use Prim.Native.Nat.{ℕ, suc, _+_, _≤_, _<_}
 use native.Mathlib.Omega.{arith}
 use native.Mathlib.Numerals.{add-one}
 use mathlib.Core.Bool.{Bool, true, false}
@@ -79,8 +79,8 @@ module _ (xs : List ℕ) (k : Kept xs) (user parent new : ℕ) (v : verdict (vie
       sym (ap (λ f. groupsInside f new) (cores-after depth)
       ∙ groups-made s (places (view xs)) (depths (view xs)) (k .formed .sound) (k .formed .placed) new parent (m .low) (m .home) (m .free) (m .shallow))
 
-  pub make-adjustable : Adjustable xs Groups parent 1 0
-  make-adjustable = adjustable xs k parent (m .home) Groups 1 0 (omega arith) (λ a i. omega arith)
+  pub make-adjustable : (n : ℕ) → n ≤ 1 → Adjustable xs Groups parent n 0
+  make-adjustable n few = adjustable xs k parent (m .home) Groups n 0 (omega arith) (λ a i. omega arith)
 
   count-above : (zs : List ℕ) → Adjusted xs zs Groups parent 1 0 → (depth a : ℕ) → a ≢ new → sumIn zs Groups a ≡ groupsInside (cores (made depth)) a
   count-above zs d depth a ne =
@@ -88,7 +88,7 @@ module _ (xs : List ℕ) (k : Kept xs) (user parent new : ℕ) (v : verdict (vie
       let sum : groupsInside (upd s new (newCore parent)) a ≡ groupsInside s a + weigh b 1 =
       groups-above-made s (places (view xs)) (depths (view xs)) (k .formed .sound) (k .formed .placed) new parent (m .low) (m .home) (m .free) (m .shallow) a ne in
       let same : sumIn zs Groups a ≡ groupsInside (upd s new (newCore parent)) a =
-      omega (arith, sum-after-adjust xs zs parent Groups 1 0 d (make-adjustable .enough) a, weigh-zero b, k .sums Groups a) in
+      omega (arith, sum-after-adjust xs zs parent Groups 1 0 d (make-adjustable 1 (omega arith) .enough) a, weigh-zero b, k .sums Groups a) in
       same ∙ ap (λ f. groupsInside f a) (sym (cores-after depth))
 
   pub applied-make : (zs ys : List ℕ) (d : ℕ) → d ≡ depths (view xs) parent → Adjusted xs zs Groups parent 1 0

@@ -1,7 +1,7 @@
 -- What an accepted remove finds, that the pages it passes on fit a word, and that its stores give the definitions' tree:
 -- the pages stay inside every group above, so that no other group's amount changes, and each of these has one group less inside.
 -- Assumes nothing.
-use Prim.Native.Nat.{ℕ, _+_, _^_, _<_}
+use Prim.Native.Nat.{ℕ, _+_, _^_, _≤_, _<_}
 use native.Mathlib.Omega.{arith}
 use mathlib.Core.Bool.{Bool, true}
 use mathlib.Core.List.{List}
@@ -103,11 +103,14 @@ module _ (xs : List ℕ) (k : Kept xs) (user g : ℕ) (v : verdict (view xs) (re
       sym (count-dead (cores (removed (view xs) g)) (places (view xs)) (depths (removed (view xs) g)) (formed-after .sound) (formed-after .placed) c g
       (ap (λ (x : Group). x .core .live) (upd-same groups-after g noGroup)))
 
-  pub remove-adjustable : (p : ℕ) → p ≡ parents (view xs) g → Adjustable xs Groups p 0 1
-  remove-adjustable p e =
+  pub remove-adjustable : (p m : ℕ) → p ≡ parents (view xs) g → m ≤ 1 → Adjustable xs Groups p 0 m
+  remove-adjustable p m e few =
       rw e
-      (adjustable xs k (parents (view xs) g) home Groups 0 1 (omega arith)
-      (λ a i. group-counted s (places (view xs)) (depths (view xs)) (k .formed .sound) (k .formed .placed) a (parents (view xs) g) home i))
+      (adjustable xs k (parents (view xs) g) home Groups 0 m (omega arith)
+      (λ a i. omega (
+        arith,
+        group-counted s (places (view xs)) (depths (view xs)) (k .formed .sound) (k .formed .placed) a (parents (view xs) g) home i,
+      )))
 
   count-above : (us : List ℕ) → Adjusted xs us Groups (parents (view xs) g) 0 1 → (a : ℕ) → a ≢ g
       → sumIn us Groups a ≡ groupsInside (cores (removed (view xs) g)) a
@@ -119,7 +122,7 @@ module _ (xs : List ℕ) (k : Kept xs) (user g : ℕ) (v : verdict (view xs) (re
       groups-after-remove s (places (view xs)) (depths (view xs)) (k .formed .sound) (k .formed .placed) g
       (here .live) (here .nonroot) (here .childless) (here .empty) (parent-after .core) refl refl a ne in
       let same : sumIn us Groups a ≡ groupsInside after a =
-      omega (arith, sum-after-adjust xs us h Groups 0 1 d (remove-adjustable h refl .enough) a, weigh-zero b, k .sums Groups a) in
+      omega (arith, sum-after-adjust xs us h Groups 0 1 d (remove-adjustable h 1 refl (omega arith) .enough) a, weigh-zero b, k .sums Groups a) in
       same ∙ ap (λ f. groupsInside f a) (sym cores-after)
 
   pub applied-remove : (us zs ys : List ℕ) (p m n : ℕ) → p ≡ parents (view xs) g → m ≡ view xs .group p .core .own → n ≡ view xs .group g .core .own

@@ -12,7 +12,7 @@ use tree::group::set_owner;
 use tree::layout::GROUPS;
 use tree::layout::Tree;
 
-// The checks, in the paper's order.
+// 22 the root, or a number out of range; 2 not live; 13 the user is not 0.
 fn vet_hand_over(tree: &Tree, user: u32, group: GroupId, owner: u32) -> Answer
     ensures { λ r. ⌜ r ≡ verdict (view (now (tree .entry))) (handOver user (group .0) owner) ⌝ }
 {
@@ -32,7 +32,6 @@ fn vet_hand_over(tree: &Tree, user: u32, group: GroupId, owner: u32) -> Answer
 }
 
 // The group's owner is `owner`.
-// Einval: the root, or a number out of range. Enoent: not live. Eacces: the user is not 0.
 pub fn hand_over(tree: &mut Tree, user: u32, group: GroupId, owner: u32) -> Answer
     requires { ⌜ Kept (now tree) ⌝ }
     ensures { λ r. ⌜ Called (now (tree .entry)) (now (tree .exit)) (handOver user (group .0) owner) r ⌝ }

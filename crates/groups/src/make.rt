@@ -18,7 +18,8 @@ use tree::layout::Tree;
 use tree::rule::may_write;
 use tree::sum::Counter;
 
-// The checks, in the paper's order.
+// 22 a number out of range; 2 the parent not live; 17 the new number taken; 13 the user may not write the parent; 11 the parent as
+// deep as a group can be.
 fn vet_make(tree: &Tree, user: u32, parent: GroupId, new: GroupId) -> Answer
     ensures { λ r. ⌜ r ≡ verdict (view (now (tree .entry))) (make user (parent .0) (new .0)) ⌝ }
 {
@@ -44,8 +45,6 @@ fn vet_make(tree: &Tree, user: u32, parent: GroupId, new: GroupId) -> Answer
 }
 
 // A group under `parent`, owned by `user`, with an empty set, the defaults and no pages.
-// Einval: a number out of range. Enoent: the parent is not live. Eexist: the new number is taken. Eacces: the user may not
-// write the parent. Eagain: the parent is as deep as a group can be.
 pub fn make(tree: &mut Tree, user: u32, parent: GroupId, new: GroupId) -> Answer
     requires { ⌜ Kept (now tree) ⌝ }
     ensures { λ r. ⌜ Called (now (tree .entry)) (now (tree .exit)) (make user (parent .0) (new .0)) r ⌝ }

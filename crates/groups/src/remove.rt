@@ -38,7 +38,8 @@ fn is_populated(t: &Tree, g: GroupId) -> bool
     sum(t, g, Counter::Of(Resource::Processes)) != 0
 }
 
-// The checks, in the paper's order. The root's parent is the root itself, whose owner is user 0.
+// 22 the number out of range; 2 not live; 13 the user may not write the parent; 16 the root, or a live child or a live process in
+// the group. The root's parent is the root itself, whose owner is user 0.
 fn vet_remove(tree: &Tree, user: u32, group: GroupId) -> Answer
     requires { ⌜ Kept (now tree) ⌝ }
     ensures { λ r. ⌜ r ≡ verdict (view (now (tree .entry))) (remove user (group .0)) ⌝ }
@@ -65,8 +66,6 @@ fn vet_remove(tree: &Tree, user: u32, group: GroupId) -> Answer
 }
 
 // The group is no longer live, and its own pages pass to its parent: of the sums above it only that of live groups changes.
-// Einval: a number out of range. Enoent: not live. Eacces: the user may not write the parent. Ebusy: the root, or a live
-// child or a live process in the group.
 pub fn remove(tree: &mut Tree, user: u32, group: GroupId) -> Answer
     requires { ⌜ Kept (now tree) ⌝ }
     ensures { λ r. ⌜ Called (now (tree .entry)) (now (tree .exit)) (remove user (group .0)) r ⌝ }

@@ -56,25 +56,25 @@ pub enum File {
 
 // The numbers that the host says no with, by their names in document 01's table.
 pub enum Errno {
-    // 2: group not live, file absent there, controller not available
+    // 2 group not live, file absent there, controller not available
     Enoent,
-    // 3: no such live process
+    // 3 no such live process
     Esrch,
-    // 11: depth limit, or a pids limit stops a fork
+    // 11 depth limit, or a pids limit stops a fork
     Eagain,
-    // 12: a memory limit or the machine stops a charge
+    // 12 a memory limit or the machine stops a charge
     Enomem,
-    // 13: the user may not
+    // 13 the user may not
     Eacces,
-    // 16: group in use, or the inner-process rule
+    // 16 group in use, or the inner-process rule
     Ebusy,
-    // 17: number already live
+    // 17 number already live
     Eexist,
-    // 22: number out of range or text malformed
+    // 22 number out of range or text malformed
     Einval,
-    // 28: reply buffer shorter than the reply
+    // 28 reply buffer shorter than the reply
     Enospc,
-    // 34: well-formed figure outside its range, or too many pages released
+    // 34 well-formed figure outside its range, or too many pages released
     Erange,
 }
 

@@ -26,7 +26,7 @@ pub enum LimitWord {
 // What a line gives a setting.
 pub enum LineValue {
     Of(SettingValue),
-    // 22: not as many words as the setting takes, or a word of another form
+    // 22 not as many words as the setting takes, or a word of another form
     Malformed,
 }
 

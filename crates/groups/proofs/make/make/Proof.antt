@@ -40,7 +40,7 @@ add-deep c = omega (arith, c .depth .ensures, makeable _ _ _ _ (accepted (c .bef
 adjust-up-requires : tie.Need-adjust-up-requires
 adjust-up-requires c κs =
     let d = c .before .before .before in
-    make-adjustable _ (d .before .before .before .before .pre) _ _ _ (accepted d)
+    make-adjustable _ (d .before .before .before .before .pre) _ _ _ (accepted d) _ (omega arith)
 
 put-group-requires : tie.Need-put-group-requires
 put-group-requires c κs =

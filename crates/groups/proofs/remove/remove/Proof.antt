@@ -65,7 +65,7 @@ adjust-up-requires : tie.Need-adjust-up-requires
 adjust-up-requires c κs =
     let p = parent-at (c .before) in
     let d = told-at p in
-    remove-adjustable _ (start d .pre) _ _ (accepted d) _ (p .parent .ensures)
+    remove-adjustable _ (start d .pre) _ _ (accepted d) _ _ (p .parent .ensures) (omega arith)
 
 set-own-requires : tie.Need-set-own-requires
 set-own-requires c κs =
