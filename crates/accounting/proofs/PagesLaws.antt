@@ -21,10 +21,10 @@ use Rattle.tree.specs.Counters.{Adjustable}
 use Rattle.tree.specs.Kept.{countOf, Kept}
 use Rattle.tree.specs.Calling.{Applied}
 use Rattle.tree.specs.declared.sum.Counter.{Counter}
-use Rattle.tree.specs.declared.sum.Counter.the-variants.{Of, Groups}
+use Rattle.tree.specs.declared.sum.Counter.the-variants.{Of, Children}
 use Rattle.tree.proofs.KeptLaws.{own-small, adjustable}
 use Rattle.tree.proofs.AdjustLaws.{counters-apart}
-use Rattle.tree.proofs.CountLaws.{groups-same}
+use Rattle.tree.proofs.CountLaws.{children-same}
 use Rattle.tree.proofs.RoomCallLaws.{sum-after-adjust}
 use Rattle.tree.proofs.CallLaws.{applied-as}
 use Rattle.accounting.specs.Pages.{pagesSet, PagesAdjustable, PagesAdjusted}
@@ -67,10 +67,10 @@ module _ (xs : List ℕ) (g n m : ℕ) (p : PagesAdjustable xs g n m) where
         wrote .sums (Of Processes) a ∙ adjusted .other (Of Processes) (counters-apart (Of Processes) (Of Pages) (λ e. omega arith)) a
         ∙ p .home .kept .sums (Of Processes) a
         ∙ sym (population-same (cores (view xs)) (cores (pagesSet (view xs) g n m)) (places (view xs)) (kept-by (λ x. x .core .parent) refl) a)
-    sums-after Groups a =
-        wrote .sums Groups a ∙ adjusted .other Groups (counters-apart Groups (Of Pages) (λ e. omega arith)) a
-        ∙ p .home .kept .sums Groups a
-        ∙ sym (groups-same (cores (view xs)) (cores (pagesSet (view xs) g n m)) (kept-by (λ x. x .core .parent) refl) (kept-by (λ x. x .core .live) refl) a)
+    sums-after Children a =
+        wrote .sums Children a ∙ adjusted .other Children (counters-apart Children (Of Pages) (λ e. omega arith)) a
+        ∙ p .home .kept .sums Children a
+        ∙ sym (children-same (cores (view xs)) (cores (pagesSet (view xs) g n m)) (kept-by (λ x. x .core .parent) refl) (kept-by (λ x. x .core .live) refl) a)
 
     pub pages-adjusted : PagesAdjusted xs zs g n m
     pages-adjusted =

@@ -1,37 +1,37 @@
--- What an accepted make finds, and that its stores give the definitions' tree: no amount changes, nothing is inside the group that
--- is made, and it is counted above. Assumes nothing.
+-- What an accepted make finds, and that its stores give the definitions' tree: no amount changes, nothing is in the group that is
+-- made, and its parent counts it. Assumes nothing.
 use Prim.Native.Nat.{ℕ, suc, _+_, _≤_, _<_}
 use native.Mathlib.Omega.{arith}
 use native.Mathlib.Numerals.{add-one}
-use mathlib.Core.Bool.{Bool, true, false}
+use mathlib.Core.Bool.{true, false}
 use mathlib.Core.List.{List}
 use mathlib.Core.Logic.{_≢_}
-use mathlib.Core.Path.{_≡_, ap, sym, _∙_, subst}
-use borrow.Author.Tests.{leb-false}
+use mathlib.Core.Path.{_≡_, ap, _∙_, subst}
+use lib.Dec.{eqb}
+use borrow.Author.Tests.{leb-false, ne-eqb}
 use Rattle.model.specs.Functions.{upd, weigh}
 use Rattle.model.specs.Sizes.{groups, deepest}
 use Rattle.model.specs.Checks.{Pass}
-use Rattle.model.specs.Tree.{Tree, Core, Group, newCore, newGroup, atGroup, cores, lives, parents, depths, places}
-use Rattle.model.specs.Hierarchy.{inside, amount, factsOf}
+use Rattle.model.specs.Tree.{Tree, Core, Group, newCore, newGroup, atGroup, cores, lives, depths, places}
+use Rattle.model.specs.Hierarchy.{amount, factsOf}
 use Rattle.model.specs.Calls.{make, checks, verdict}
 use Rattle.model.specs.Effects.{effect}
 use Rattle.model.specs.declared.Resource.{Resource}
 use Rattle.model.specs.declared.Answer.the-variants.{Done}
-use Rattle.model.proofs.FunctionLaws.{weigh-zero, upd-map}
+use Rattle.model.proofs.FunctionLaws.{clash, weigh-no, weigh-zero, upd-map}
 use Rattle.model.proofs.RuleLaws.{untaken-group}
 use Rattle.model.proofs.AmountLaws.{amount-dead, amount-after-make}
 use Rattle.model.proofs.Steps.{passed}
 use Rattle.tree.specs.Layout.{view, sumIn}
-use Rattle.tree.specs.Changes.{Cleared, Adjusted, aloneSums}
-use Rattle.tree.specs.Counters.{Adjustable}
-use Rattle.tree.specs.Kept.{groupsInside, countOf, Kept}
+use Rattle.tree.specs.Changes.{Cleared, AdjustedAt}
+use Rattle.tree.specs.Counters.{Countable}
+use Rattle.tree.specs.Kept.{children, countOf, Kept}
 use Rattle.tree.specs.Calling.{Applied}
 use Rattle.tree.specs.declared.sum.Counter.{Counter}
-use Rattle.tree.specs.declared.sum.Counter.the-variants.{Of, Groups}
-use Rattle.tree.proofs.KeptLaws.{adjustable}
-use Rattle.tree.proofs.CountLaws.{groups-made, groups-above-made}
-use Rattle.tree.proofs.RoomCallLaws.{sum-after-adjust}
-use Rattle.groups.proofs.ClearedLaws.{applied-cleared}
+use Rattle.tree.specs.declared.sum.Counter.the-variants.{Of, Children}
+use Rattle.tree.proofs.KeptLaws.{countable}
+use Rattle.tree.proofs.CountLaws.{count-dead, children-after-make}
+use Rattle.groups.proofs.ClearedLaws.{applied-cleared, children-adjusted}
 
 -- what the checks say where all pass
 pub record Makeable (t : Tree) (parent new : ℕ) : Type 0 where
@@ -71,30 +71,41 @@ module _ (xs : List ℕ) (k : Kept xs) (user parent new : ℕ) (v : verdict (vie
       ap (λ f. amount f (places (view xs)) r g) (cores-after depth)
       ∙ amount-after-make s (places (view xs)) (depths (view xs)) (k .formed .sound) (k .formed .placed) r new parent g (m .free)
 
-  -- the group that is made is alone and empty
-  count-made : (depth : ℕ) (c : Counter) → aloneSums c ≡ countOf (cores (made depth)) (places (view xs)) c new
+  -- nothing is in the group that is made
+  children-made : (depth a : ℕ) → children (cores (made depth)) a ≡ children s a + weigh (eqb parent a) 1
+  children-made depth a =
+      ap (λ f. children f a) (cores-after depth)
+      ∙ children-after-make s (places (view xs)) (depths (view xs)) (k .formed .sound) (k .formed .placed) new parent (m .low) (m .free) a
+
+  count-made : (depth : ℕ) (c : Counter) → countOf (cores (made depth)) (places (view xs)) c new ≡ 0
   count-made depth (Of r) =
-      sym (amount-same depth r new ∙ amount-dead s (places (view xs)) (depths (view xs)) (k .formed .sound) (k .formed .placed) r new (m .free))
-  count-made depth Groups =
-      sym (ap (λ f. groupsInside f new) (cores-after depth)
-      ∙ groups-made s (places (view xs)) (depths (view xs)) (k .formed .sound) (k .formed .placed) new parent (m .low) (m .home) (m .free) (m .shallow))
+      amount-same depth r new ∙ amount-dead s (places (view xs)) (depths (view xs)) (k .formed .sound) (k .formed .placed) r new (m .free)
+  count-made depth Children =
+      let apart : parent ≢ new = (λ e. clash (lives (view xs) parent) (m .home) (rw e (m .free))) in
+      omega (
+        arith,
+        children-made depth new,
+        count-dead s (places (view xs)) (depths (view xs)) (k .formed .sound) (k .formed .placed) Children new (m .free),
+        weigh-no (eqb parent new) 1 (ne-eqb parent new apart),
+      )
 
-  pub make-adjustable : (n : ℕ) → n ≤ 1 → Adjustable xs Groups parent n 0
-  make-adjustable n few = adjustable xs k parent (m .home) Groups n 0 (omega arith) (λ a i. omega arith)
+  pub make-countable : (n : ℕ) → n ≤ 1 → Countable xs Children parent n 0
+  make-countable n few = countable xs k parent (m .home) Children n 0 (omega arith) (omega arith)
 
-  count-above : (zs : List ℕ) → Adjusted xs zs Groups parent 1 0 → (depth a : ℕ) → a ≢ new → sumIn zs Groups a ≡ groupsInside (cores (made depth)) a
-  count-above zs d depth a ne =
-      let b : Bool = inside (parents (view xs)) a parent in
-      let sum : groupsInside (upd s new (newCore parent)) a ≡ groupsInside s a + weigh b 1 =
-      groups-above-made s (places (view xs)) (depths (view xs)) (k .formed .sound) (k .formed .placed) new parent (m .low) (m .home) (m .free) (m .shallow) a ne in
-      let same : sumIn zs Groups a ≡ groupsInside (upd s new (newCore parent)) a =
-      omega (arith, sum-after-adjust xs zs parent Groups 1 0 d (make-adjustable 1 (omega arith) .enough) a, weigh-zero b, k .sums Groups a) in
-      same ∙ ap (λ f. groupsInside f a) (sym (cores-after depth))
+  count-above : (zs : List ℕ) → AdjustedAt xs zs Children parent 1 0 → (depth a : ℕ) → sumIn zs Children a ≡ children (cores (made depth)) a
+  count-above zs d depth a =
+      omega (
+        arith,
+        children-adjusted xs zs parent 1 0 d (omega arith) a,
+        weigh-zero (eqb parent a),
+        k .sums Children a,
+        children-made depth a,
+      )
 
-  pub applied-make : (zs ys : List ℕ) (d : ℕ) → d ≡ depths (view xs) parent → Adjusted xs zs Groups parent 1 0
-      → Cleared zs ys (atGroup (view zs) new (newGroup parent (d + 1) user)) new aloneSums → Applied xs ys (make user parent new)
+  pub applied-make : (zs ys : List ℕ) (d : ℕ) → d ≡ depths (view xs) parent → AdjustedAt xs zs Children parent 1 0
+      → Cleared zs ys (atGroup (view zs) new (newGroup parent (d + 1) user)) new → Applied xs ys (make user parent new)
   unfolding effect
   applied-make zs ys d e j p =
-      applied-cleared xs k (make user parent new) v new zs ys parent 1 0 aloneSums j
-      (subst (λ (t : Tree). Cleared zs ys (atGroup t new (newGroup parent (suc (depths (view xs) parent)) user)) new aloneSums) (j .tree) (rw (e, add-one) at p))
-      (count-made _) (count-above zs j _) (λ r a _. amount-same _ r a)
+      applied-cleared xs k (make user parent new) v new zs ys parent 1 0 j
+      (subst (λ (t : Tree). Cleared zs ys (atGroup t new (newGroup parent (suc (depths (view xs) parent)) user)) new) (j .tree) (rw (e, add-one) at p))
+      (count-made _) (λ a _. count-above zs j _ a) (λ r a _. amount-same _ r a)

@@ -1,18 +1,19 @@
 -- What an accepted remove finds, that the pages it passes on fit a word, and that its stores give the definitions' tree:
--- the pages stay inside every group above, so that no other group's amount changes, and each of these has one group less inside.
+-- the pages stay inside every group above, so that no other group's amount changes, and its parent has one child less.
 -- Assumes nothing.
 use Prim.Native.Nat.{ℕ, _+_, _^_, _≤_, _<_}
 use native.Mathlib.Omega.{arith}
-use mathlib.Core.Bool.{Bool, true}
+use mathlib.Core.Bool.{true}
 use mathlib.Core.List.{List}
 use mathlib.Core.Logic.{_≢_}
-use mathlib.Core.Path.{_≡_, refl, ap, sym, _∙_, subst}
+use mathlib.Core.Path.{_≡_, refl, ap, _∙_, subst}
+use lib.Dec.{eqb}
 use borrow.Author.Tests.{eqb-false}
 use Rattle.model.specs.Functions.{upd, weigh}
 use Rattle.model.specs.Sizes.{groups}
 use Rattle.model.specs.Checks.{Pass}
 use Rattle.model.specs.Tree.{Tree, Core, Group, at, noCore, noGroup, atGroup, cores, lives, parents, depths, places}
-use Rattle.model.specs.Hierarchy.{inside, amount, factsOf}
+use Rattle.model.specs.Hierarchy.{amount, factsOf}
 use Rattle.model.specs.Calls.{remove, checks, verdict}
 use Rattle.model.specs.Effects.{charged, removed, effect}
 use Rattle.model.specs.WellFormed.{WellFormed}
@@ -23,16 +24,15 @@ use Rattle.model.proofs.RuleLaws.{NoChild}
 use Rattle.model.proofs.AmountLaws.{amount-after-remove}
 use Rattle.model.proofs.Steps.{passed, no-child, no-process, well-formed-effect}
 use Rattle.tree.specs.Layout.{view, sumIn}
-use Rattle.tree.specs.Changes.{Wrote, Cleared, Adjusted, noSums, ownSet}
-use Rattle.tree.specs.Counters.{Adjustable}
-use Rattle.tree.specs.Kept.{groupsInside, countOf, Kept}
+use Rattle.tree.specs.Changes.{Wrote, Cleared, AdjustedAt, ownSet}
+use Rattle.tree.specs.Counters.{Countable}
+use Rattle.tree.specs.Kept.{children, countOf, Kept}
 use Rattle.tree.specs.Calling.{Applied}
 use Rattle.tree.specs.declared.sum.Counter.{Counter}
-use Rattle.tree.specs.declared.sum.Counter.the-variants.{Groups}
-use Rattle.tree.proofs.KeptLaws.{parent-low, own-small, adjustable}
-use Rattle.tree.proofs.CountLaws.{count-dead, group-counted, groups-after-remove}
-use Rattle.tree.proofs.RoomCallLaws.{sum-after-adjust}
-use Rattle.groups.proofs.ClearedLaws.{cleared-after-wrote, applied-cleared}
+use Rattle.tree.specs.declared.sum.Counter.the-variants.{Children}
+use Rattle.tree.proofs.KeptLaws.{parent-low, own-small, countable}
+use Rattle.tree.proofs.CountLaws.{count-dead, child-counted, children-after-remove}
+use Rattle.groups.proofs.ClearedLaws.{cleared-after-wrote, applied-cleared, children-adjusted}
 
 -- what the checks say where all pass
 record Removable (t : Tree) (g : ℕ) : Type 0 where
@@ -98,41 +98,40 @@ module _ (xs : List ℕ) (k : Kept xs) (user g : ℕ) (v : verdict (view xs) (re
   unfolding effect
   formed-after = well-formed-effect (view xs) (remove user g) (k .formed) (passed (view xs) (remove user g) v)
 
-  count-removed : (c : Counter) → noSums c ≡ countOf (cores (removed (view xs) g)) (places (view xs)) c g
+  count-removed : (c : Counter) → countOf (cores (removed (view xs) g)) (places (view xs)) c g ≡ 0
   count-removed c =
-      sym (count-dead (cores (removed (view xs) g)) (places (view xs)) (depths (removed (view xs) g)) (formed-after .sound) (formed-after .placed) c g
-      (ap (λ (x : Group). x .core .live) (upd-same groups-after g noGroup)))
+      count-dead (cores (removed (view xs) g)) (places (view xs)) (depths (removed (view xs) g)) (formed-after .sound) (formed-after .placed) c g
+      (ap (λ (x : Group). x .core .live) (upd-same groups-after g noGroup))
 
-  pub remove-adjustable : (p m : ℕ) → p ≡ parents (view xs) g → m ≤ 1 → Adjustable xs Groups p 0 m
-  remove-adjustable p m e few =
+  pub remove-countable : (p m : ℕ) → p ≡ parents (view xs) g → m ≤ 1 → Countable xs Children p 0 m
+  remove-countable p m e few =
       rw e
-      (adjustable xs k (parents (view xs) g) home Groups 0 m (omega arith)
-      (λ a i. omega (
-        arith,
-        group-counted s (places (view xs)) (depths (view xs)) (k .formed .sound) (k .formed .placed) a (parents (view xs) g) home i,
-      )))
+      (countable xs k (parents (view xs) g) home Children 0 m (omega arith)
+      (omega (arith, child-counted s (places (view xs)) (depths (view xs)) (k .formed .sound) (k .formed .placed) g (here .live) (here .nonroot))))
 
-  count-above : (us : List ℕ) → Adjusted xs us Groups (parents (view xs) g) 0 1 → (a : ℕ) → a ≢ g
-      → sumIn us Groups a ≡ groupsInside (cores (removed (view xs) g)) a
-  count-above us d a ne =
+  count-above : (us : List ℕ) → AdjustedAt xs us Children (parents (view xs) g) 0 1 → (a : ℕ) → sumIn us Children a ≡ children (cores (removed (view xs) g)) a
+  count-above us d a =
       let h : ℕ = parents (view xs) g in
-      let b : Bool = inside (parents (view xs)) a h in
-      let after : ℕ → Core = upd (upd s h (parent-after .core)) g noCore in
-      let less : groupsInside after a + weigh b 1 ≡ groupsInside s a =
-      groups-after-remove s (places (view xs)) (depths (view xs)) (k .formed .sound) (k .formed .placed) g
-      (here .live) (here .nonroot) (here .childless) (here .empty) (parent-after .core) refl refl a ne in
-      let same : sumIn us Groups a ≡ groupsInside after a =
-      omega (arith, sum-after-adjust xs us h Groups 0 1 d (remove-adjustable h 1 refl (omega arith) .enough) a, weigh-zero b, k .sums Groups a) in
-      same ∙ ap (λ f. groupsInside f a) (sym cores-after)
+      let less : children (upd (upd s h (parent-after .core)) g noCore) a + weigh (eqb h a) 1 ≡ children s a =
+      children-after-remove s (places (view xs)) (depths (view xs)) (k .formed .sound) (k .formed .placed) g (parent-after .core)
+      (here .live) (here .nonroot) (here .childless g (here .live) (here .nonroot)) refl refl a in
+      omega (
+        arith,
+        children-adjusted xs us h 0 1 d (remove-countable h 1 refl (omega arith) .enough) a,
+        weigh-zero (eqb h a),
+        k .sums Children a,
+        less,
+        ap (λ f. children f a) cores-after,
+      )
 
   pub applied-remove : (us zs ys : List ℕ) (p m n : ℕ) → p ≡ parents (view xs) g → m ≡ view xs .group p .core .own → n ≡ view xs .group g .core .own
-      → Adjusted xs us Groups p 0 1 → Wrote us zs (ownSet (view us) p (m + n)) → Cleared zs ys (atGroup (view zs) g noGroup) g noSums
+      → AdjustedAt xs us Children p 0 1 → Wrote us zs (ownSet (view us) p (m + n)) → Cleared zs ys (atGroup (view zs) g noGroup) g
       → Applied xs ys (remove user g)
   unfolding effect
   applied-remove us zs ys p m n a b d j w q =
       let h : ℕ = parents (view xs) g in
       let pages : ℕ = view xs .group h .core .own + view xs .group g .core .own in
       let stored : Wrote us zs (ownSet (view xs) h pages) = subst (λ (t : Tree). Wrote us zs (ownSet t h pages)) (j .tree) (rw (b, d, a) at w) in
-      applied-cleared xs k (remove user g) v g us ys _ 0 1 noSums (rw a at j)
-      (cleared-after-wrote us zs ys _ g noGroup noSums stored q)
-      count-removed (count-above us (rw a at j)) amount-same
+      applied-cleared xs k (remove user g) v g us ys _ 0 1 (rw a at j)
+      (cleared-after-wrote us zs ys _ g noGroup stored q)
+      count-removed (λ x _. count-above us (rw a at j) x) amount-same

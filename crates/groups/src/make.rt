@@ -1,4 +1,4 @@
-// Document 01, "Make". Checks, then one row; the groups above count one more.
+// Document 01, "Make". Checks, then one row, and one child more in the parent's.
 ghost use mathlib.Core.Path.{_≡_};
 ghost use Rattle.model.specs.Calls.{make, verdict};
 ghost use Rattle.tree.specs.Layout.{view};
@@ -7,7 +7,7 @@ ghost use Rattle.tree.specs.Calling.{Called};
 use model::Answer;
 use model::Errno;
 use model::GroupId;
-use tree::counter::adjust_up;
+use tree::counter::adjust;
 use tree::group::depth;
 use tree::group::is_live;
 use tree::group::is_taken;
@@ -54,7 +54,7 @@ pub fn make(tree: &mut Tree, user: u32, parent: GroupId, new: GroupId) -> Answer
         return v;
     };
     let deep = depth(tree, parent) + 1;
-    adjust_up(tree, parent, Counter::Groups, 1, 0);
+    adjust(tree, parent, Counter::Children, 1, 0);
     put_group(tree, new, parent, deep, user);
     Answer::Done
 }

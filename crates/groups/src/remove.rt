@@ -1,4 +1,4 @@
-// Document 01, "Remove". The group's own row says whether anything is in it; the groups above count one less.
+// Document 01, "Remove". The group's own row says whether anything is in it, and only its parent's changes with it.
 ghost use mathlib.Core.Bool.{false};
 ghost use mathlib.Core.Path.{_≡_};
 ghost use Rattle.model.specs.Rules.{hasChild, hasProcess};
@@ -10,7 +10,7 @@ use model::Answer;
 use model::Errno;
 use model::GroupId;
 use model::Resource;
-use tree::counter::adjust_up;
+use tree::counter::adjust;
 use tree::group::clear_group;
 use tree::group::is_live;
 use tree::group::own;
@@ -22,12 +22,12 @@ use tree::rule::may_write;
 use tree::sum::Counter;
 use tree::sum::sum;
 
-// Whether a group has a live child: it is not alone inside itself.
+// Whether a group has a live child: they are counted in its row.
 fn has_child(t: &Tree, g: GroupId) -> bool
     requires { ⌜ KeptAt (now t) (g .0) ⌝ }
     ensures { λ r. ⌜ r ≡ hasChild (view (now (t .entry))) (g .0) ⌝ }
 {
-    sum(t, g, Counter::Groups) != 1
+    sum(t, g, Counter::Children) != 0
 }
 
 // Whether a live process stands in a group that has no live child: whatever is inside stands in it, and is counted there.
@@ -65,7 +65,7 @@ fn vet_remove(tree: &Tree, user: u32, group: GroupId) -> Answer
     Answer::Done
 }
 
-// The group is no longer live, and its own pages pass to its parent: of the sums above it only that of live groups changes.
+// The group is no longer live, and its own pages pass to its parent. No running sum above it changes.
 pub fn remove(tree: &mut Tree, user: u32, group: GroupId) -> Answer
     requires { ⌜ Kept (now tree) ⌝ }
     ensures { λ r. ⌜ Called (now (tree .entry)) (now (tree .exit)) (remove user (group .0)) r ⌝ }
@@ -77,7 +77,7 @@ pub fn remove(tree: &mut Tree, user: u32, group: GroupId) -> Answer
     let above = parent(tree, group);
     let held = own(tree, above);
     let pages = held + own(tree, group);
-    adjust_up(tree, above, Counter::Groups, 0, 1);
+    adjust(tree, above, Counter::Children, 0, 1);
     set_own(tree, above, pages);
     clear_group(tree, group);
     Answer::Done

@@ -26,7 +26,7 @@ use Rattle.tree.specs.Counters.{Adjustable}
 use Rattle.tree.specs.Kept.{countOf, Kept}
 use Rattle.tree.specs.Calling.{Applied}
 use Rattle.tree.specs.declared.sum.Counter.{Counter}
-use Rattle.tree.specs.declared.sum.Counter.the-variants.{Of, Groups}
+use Rattle.tree.specs.declared.sum.Counter.the-variants.{Of, Children}
 use Rattle.tree.proofs.AdjustLaws.{counters-apart}
 use Rattle.tree.proofs.KeptLaws.{adjustable}
 use Rattle.tree.proofs.CallLaws.{applied-as}
@@ -122,7 +122,7 @@ module _ (xs ys zs : List ℕ) (k : Kept xs) (p : ℕ) (low : p < processes) (v 
 
       sums-after : (c : Counter) (a : ℕ) → sumIn zs c a ≡ countOf (cores (view xs)) (places (atProcess (view xs) p v)) c a
       sums-after (Of Pages) a = stays (Of Pages) (counters-apart (Of Pages) (Of Processes) (λ e. omega arith)) a
-      sums-after Groups a = stays Groups (counters-apart Groups (Of Processes) (λ e. omega arith)) a
+      sums-after Children a = stays Children (counters-apart Children (Of Processes) (λ e. omega arith)) a
       sums-after (Of Processes) a =
           let u : population (cores (view xs)) (upd (places (view xs)) p (v .place)) a ≡ sumIn ys (Of Processes) a =
           omega (

@@ -8,7 +8,7 @@ use mathlib.Core.Path.{_≡_, ap₂, _∙_, fun-ext}
 use Rattle.model.specs.Functions.{weigh, sum, member}
 use Rattle.model.specs.Sizes.{groups, processes, largestMachine}
 use Rattle.model.specs.Tree.{Tree, Core, Place, nowhere, at, groupOf, cores, lives, parents, places}
-use Rattle.model.specs.Hierarchy.{chain, inside, held, ownPages, headcount, usage, population, amount, factsOf}
+use Rattle.model.specs.Hierarchy.{childOf, chain, inside, held, ownPages, headcount, usage, population, amount, factsOf}
 use Rattle.model.specs.Rooms.{Room, actingLimit, consult, roomFor}
 use Rattle.model.specs.WellFormed.{Sound, WellFormed}
 use Rattle.model.specs.declared.Resource.{Resource}
@@ -17,11 +17,11 @@ use Rattle.model.proofs.FunctionLaws.{split, whether, weigh-yes, weigh-no}
 use Rattle.model.proofs.ChainLaws.{inside-live, root-inside}
 use Rattle.model.proofs.AmountLaws.{own-within-usage}
 use Rattle.tree.specs.Layout.{view, sumIn}
-use Rattle.tree.specs.Counters.{listed, ChainOf, HasParent, Adjustable, Searchable}
-use Rattle.tree.specs.Kept.{groupsInside, countOf, Kept}
+use Rattle.tree.specs.Counters.{listed, ChainOf, HasParent, Countable, Adjustable, Searchable}
+use Rattle.tree.specs.Kept.{children, countOf, Kept}
 use Rattle.tree.specs.declared.chain.Chain.{Chain}
 use Rattle.tree.specs.declared.sum.Counter.{Counter}
-use Rattle.tree.specs.declared.sum.Counter.the-variants.{Of, Groups}
+use Rattle.tree.specs.declared.sum.Counter.the-variants.{Of, Children}
 
 -- Sums are within the root's, and so within the machine; there are no more processes than numbers.
 sum-le : (n : ℕ) (f g : ℕ → ℕ) → ((j : ℕ) → j < n → f j ≤ g j) → sum n f ≤ sum n g
@@ -60,15 +60,13 @@ amount-small : (t : Tree) → WellFormed t → (r : Resource) (a : ℕ) → amou
 amount-small t w Pages a = omega (arith, usage-below-root t w a, w .sized .fits, w .sized .size)
 amount-small t w Processes a = omega (arith, population-few (cores t) (places t) a)
 
-groups-few : (s : ℕ → Core) (a : ℕ) → groupsInside s a ≤ groups
-unfolding groupsInside held
-groups-few s a =
-    sum-ones groups _
-    (λ g. omega (arith, weigh-le (inside (λ k. s k .parent) a g) (weigh (s g .live) 1), weigh-le (s g .live) 1))
+children-few : (s : ℕ → Core) (a : ℕ) → children s a ≤ groups
+unfolding children
+children-few s a = sum-ones groups _ (λ k. weigh-le (childOf a k (s k)) 1)
 
 count-small : (t : Tree) → WellFormed t → (c : Counter) (a : ℕ) → countOf (cores t) (places t) c a ≤ largestMachine
 count-small t w (Of r) a = amount-small t w r a
-count-small t w Groups a = omega (arith, groups-few (cores t) a)
+count-small t w Children a = omega (arith, children-few (cores t) a)
 
 -- The groups of a chain are live.
 pub on-chain-live : {live : ℕ → Bool} {up depth : ℕ → ℕ} (s : Sound live up depth) (g a : ℕ) → live g ≡ true → member a (chain up g) ≡ true → live a ≡ true
@@ -129,6 +127,16 @@ module _ (xs : List ℕ) (k : Kept xs) where
         live = l;
         room = λ a i. omega (arith, sum-small c a);
         enough = λ a i. omega (arith, enough a i, k .sums c a);
+      }
+
+  pub countable : (g : ℕ) → lives (view xs) g ≡ true → (c : Counter) (n m : ℕ) → n ≤ 1048576 → m ≤ countOf (cores (view xs)) (places (view xs)) c g
+      → Countable xs c g n m
+  countable g l c n m few enough =
+      record {
+        long = k .long;
+        low = k .formed .sound .range g l;
+        room = omega (arith, sum-small c g);
+        enough = omega (arith, enough, k .sums c g);
       }
 
   -- Room by the running sums is room by the definitions.

@@ -20,7 +20,7 @@ use Rattle.tree.specs.Layout.{front, machineAt, rowWords, treeWords, wor
 use Rattle.tree.specs.Kept.{countOf, Kept}
 use Rattle.tree.specs.OneForm.{OneForm}
 use Rattle.tree.specs.declared.sum.Counter.{Counter}
-use Rattle.tree.specs.declared.sum.Counter.the-variants.{Of, Groups}
+use Rattle.tree.specs.declared.sum.Counter.the-variants.{Of, Children}
 use Rattle.tree.proofs.RowLaws.{process-in}
 
 -- A meaning has one word.
@@ -115,7 +115,7 @@ module _ (v w : ℕ → ℕ) (a : SpareRow v) (b : SpareRow w) (sums : (c : Coun
                           (
                             flag liveField (omega arith) (omega arith) (ap (λ (g : Group). g .core .live) e),
                             (
-                              sums Groups,
+                              sums Children,
                               (
                                 sums (Of Processes),
                                 (

@@ -5,24 +5,24 @@ use mathlib.Core.Bool.{true}
 use mathlib.Core.List.{List}
 use mathlib.Core.Path.{_≡_}
 use lib.ListN.{length}
-use Rattle.model.specs.Functions.{weigh}
+use Rattle.model.specs.Functions.{weigh, sum}
 use Rattle.model.specs.Sizes.{groups}
 use Rattle.model.specs.Tree.{Tree, Core, Place, lives, cores, places}
-use Rattle.model.specs.Hierarchy.{held, amount}
+use Rattle.model.specs.Hierarchy.{amount, childOf}
 use Rattle.model.specs.Effects.{fresh}
 use Rattle.model.specs.WellFormed.{WellFormed}
 use Rattle.tree.specs.Layout.{treeWords, view, sumIn, Spare}
 use Rattle.tree.specs.declared.sum.Counter.{Counter}
-use Rattle.tree.specs.declared.sum.Counter.the-variants.{Of, Groups}
+use Rattle.tree.specs.declared.sum.Counter.the-variants.{Of, Children}
 
--- the live groups inside a group
-unfoldable pub groupsInside : (ℕ → Core) → ℕ → ℕ
-groupsInside cs a = held (λ g. cs g .parent) groups (λ g. weigh (cs g .live) 1) (λ g. g) a
+-- the live children of a group
+unfoldable pub children : (ℕ → Core) → ℕ → ℕ
+children cs a = sum groups (λ k. weigh (childOf a k (cs k)) 1)
 
--- what a counter counts inside a group
+-- what a counter counts in a group
 abbrev pub countOf : (ℕ → Core) → (ℕ → Place) → Counter → ℕ → ℕ
 countOf cs ps (Of r) = amount cs ps r
-countOf cs ps Groups = groupsInside cs
+countOf cs ps Children = children cs
 
 -- every running sum is what its counter counts, and 0 for a number that is not live
 abbrev pub Summed : List ℕ → Tree → Type 0

@@ -1,4 +1,5 @@
-// The running sums in a group's row: what is counted inside the group, as Linux's page counters count pages up the hierarchy.
+// The counts in a group's row: what stands inside the group, as Linux's page counters count pages up the hierarchy, and its live
+// children.
 ghost use mathlib.Core.Path.{_≡_};
 ghost use Prim.Native.Nat.{_<_};
 ghost use Rattle.model.specs.Sizes.{groups};
@@ -6,7 +7,7 @@ ghost use Rattle.tree.specs.Layout.{rowWords, withWord, sumIn, sumField}
 use super::layout::FRONT;
 use super::layout::ROW;
 use super::layout::Tree;
-use super::row::GROUP_SUM;
+use super::row::CHILDREN;
 use super::row::PAGE_SUM;
 use super::row::PROCESS_SUM;
 use super::row::set_word;
@@ -15,10 +16,10 @@ use model::Resource;
 
 // What is counted: more than limits count, so not a resource.
 pub enum Counter {
-    // what a limit counts
+    // what a limit counts: inside the group
     Of(Resource),
-    // the live groups, the group itself among them
-    Groups,
+    // the live children of the group, and of no group below it
+    Children,
 }
 
 fn sum_field(c: Counter) -> usize
@@ -29,11 +30,10 @@ fn sum_field(c: Counter) -> usize
             Resource::Pages => PAGE_SUM,
             Resource::Processes => PROCESS_SUM,
         },
-        Counter::Groups => GROUP_SUM,
+        Counter::Children => CHILDREN,
     }
 }
 
-// What stands inside a group.
 pub fn sum(t: &Tree, g: GroupId, c: Counter) -> u64
     requires { ⌜ g .0 < groups ⌝ }
     ensures { λ n. ⌜ n ≡ sumIn (now (t .entry)) c (g .0) ⌝ }

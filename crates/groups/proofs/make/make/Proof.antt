@@ -1,11 +1,11 @@
--- `groups::make::make` meets its contract: the groups above are counted first, then the new group's row is stored. Assumes nothing.
+-- `groups::make::make` meets its contract: its parent counts it first, then the new group's row is stored. Assumes nothing.
 use native.Mathlib.Omega.{arith}
 use mathlib.Core.Path.{_≡_, sym, _∙_}
 use Rattle.model.specs.Calls.{make, verdict}
 use Rattle.model.specs.declared.Answer.the-variants.{Done}
 use Rattle.tree.specs.Layout.{view}
 use Rattle.tree.proofs.CallLaws.{call-stays, call-done}
-use Rattle.groups.proofs.MakeLaws.{makeable, make-adjustable, applied-make}
+use Rattle.groups.proofs.MakeLaws.{makeable, make-countable, applied-make}
 use borrow.Author.Needs.{needs}
 use Rattle.groups.proofs.make.make.Statement.{statement}
 use Rattle.groups.proofs.make.make.Tie as tie
@@ -37,15 +37,15 @@ depth-requires c κs = makeable _ _ _ _ (accepted (c .before)) .above
 add-deep : tie.Need-add-deep
 add-deep c = omega (arith, c .depth .ensures, makeable _ _ _ _ (accepted (c .before .before)) .shallow)
 
-adjust-up-requires : tie.Need-adjust-up-requires
-adjust-up-requires c κs =
+adjust-requires : tie.Need-adjust-requires
+adjust-requires c κs =
     let d = c .before .before .before in
-    make-adjustable _ (d .before .before .before .before .pre) _ _ _ (accepted d) _ (omega arith)
+    make-countable _ (d .before .before .before .before .pre) _ _ _ (accepted d) _ (omega arith)
 
 put-group-requires : tie.Need-put-group-requires
 put-group-requires c κs =
     let d = c .before .before .before .before .before in
-    record { long = c .before .adjust-up .ensures .long; low = makeable _ _ _ _ (accepted d) .low }
+    record { long = c .before .adjust .ensures .long; low = makeable _ _ _ _ (accepted d) .low }
 
 -- done
 returns-2 : tie.Need-returns-2
@@ -54,7 +54,7 @@ returns-2 c =
     let d = j .before .before .before .before in
     let s = d .before .before .before .before in
     call-done _ (s .pre) _ (accepted d) _ _ _
-    (applied-make _ (s .pre) _ _ _ (accepted d) _ _ _ (j .before .before .depth .ensures) (j .adjust-up .ensures) (c .put-group .ensures)) (sym (accepted d))
+    (applied-make _ (s .pre) _ _ _ (accepted d) _ _ _ (j .before .before .depth .ensures) (j .adjust .ensures) (c .put-group .ensures)) (sym (accepted d))
 
 pub make-spec : {M : Type 1} → statement M
 make-spec =
@@ -66,6 +66,6 @@ make-spec =
     returns
     depth-requires
     add-deep
-    adjust-up-requires
+    adjust-requires
     put-group-requires
     returns-2)

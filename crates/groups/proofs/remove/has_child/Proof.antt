@@ -1,4 +1,4 @@
--- `groups::remove::has_child` meets its contract: a group that has no live child is alone inside itself. Assumes nothing.
+-- `groups::remove::has_child` meets its contract: the live children are counted in the group's row. Assumes nothing.
 use Prim.Native.Nat.{ℕ}
 use mathlib.Core.Bool.{not}
 use mathlib.Core.Path.{ap, _∙_}
@@ -11,7 +11,7 @@ sum-requires : tie.Need-sum-requires
 sum-requires c κs = c .pre .kept .formed .sound .range _ (c .pre .live)
 
 returns : tie.Need-returns
-returns c = ap (λ (n : ℕ). not (eqb n 1)) (c .sum .ensures) ∙ child-counted _ _ (c .before .pre)
+returns c = ap (λ (n : ℕ). not (eqb n 0)) (c .sum .ensures) ∙ child-counted _ _ (c .before .pre .kept)
 
 pub has-child-spec : {M : Type 1} → statement M
 has-child-spec = tie.close (tie.spec sum-requires returns)

@@ -1,12 +1,12 @@
 -- `groups::remove::remove` meets its contract: the pages are stored at the parent before the group's row is cleared, and
--- the groups above count one group less. Assumes nothing.
+-- its parent counts one child less. Assumes nothing.
 use native.Mathlib.Omega.{arith}
 use mathlib.Core.Path.{_≡_, sym, _∙_}
 use Rattle.model.specs.Calls.{remove, verdict}
 use Rattle.model.specs.declared.Answer.the-variants.{Done}
 use Rattle.tree.specs.Layout.{view}
 use Rattle.tree.proofs.CallLaws.{call-stays, call-done}
-use Rattle.groups.proofs.RemoveLaws.{group-low, parent-found, pages-fit, remove-adjustable, applied-remove}
+use Rattle.groups.proofs.RemoveLaws.{group-low, parent-found, pages-fit, remove-countable, applied-remove}
 use borrow.Author.Needs.{needs}
 use Rattle.groups.proofs.remove.remove.Statement.{statement}
 use Rattle.groups.proofs.remove.remove.Tie as tie
@@ -61,18 +61,18 @@ add-pages c =
     let d = told-at p in
     omega (arith, pages-fit _ (start d .pre) _ _ (accepted d) _ (p .parent .ensures) _ _ (c .before .before .own .ensures) (c .own2 .ensures))
 
-adjust-up-requires : tie.Need-adjust-up-requires
-adjust-up-requires c κs =
+adjust-requires : tie.Need-adjust-requires
+adjust-requires c κs =
     let p = parent-at (c .before) in
     let d = told-at p in
-    remove-adjustable _ (start d .pre) _ _ (accepted d) _ _ (p .parent .ensures) (omega arith)
+    remove-countable _ (start d .pre) _ _ (accepted d) _ _ (p .parent .ensures) (omega arith)
 
 set-own-requires : tie.Need-set-own-requires
 set-own-requires c κs =
     let j = c .before in
     let p = parent-at (j .before .before) in
     let d = told-at p in
-    record { long = j .adjust-up .ensures .long; low = parent-found _ (start d .pre) _ _ (accepted d) _ (p .parent .ensures) }
+    record { long = j .adjust .ensures .long; low = parent-found _ (start d .pre) _ _ (accepted d) _ (p .parent .ensures) }
 
 clear-group-requires : tie.Need-clear-group-requires
 clear-group-requires c κs =
@@ -89,7 +89,7 @@ returns-2 c =
     let k = start d .pre in
     call-done _ k _ (accepted d) _ _ _
     (applied-remove _ k _ _ (accepted d) _ _ _ _ _ _ (p .parent .ensures) (o .before .before .own .ensures) (o .own2 .ensures)
-    (j .adjust-up .ensures) (c .before .before .set-own .ensures) (c .clear-group .ensures))
+    (j .adjust .ensures) (c .before .before .set-own .ensures) (c .clear-group .ensures))
     (sym (accepted d))
 
 pub remove-spec : {M : Type 1} → statement M
@@ -104,7 +104,7 @@ remove-spec =
     own-requires
     own-requires-2
     add-pages
-    adjust-up-requires
+    adjust-requires
     set-own-requires
     clear-group-requires
     returns-2)

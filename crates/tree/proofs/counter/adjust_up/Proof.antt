@@ -2,7 +2,7 @@
 -- were. The measure is the depth of the group reached. Assumes nothing.
 use Rattle.model.specs.Tree.{depths}
 use Rattle.tree.specs.Layout.{view}
-use Rattle.tree.proofs.AdjustLaws.{Rising, rising-start, rising-low, rising-room, rising-enough, rising-next, rising-less, rising-end}
+use Rattle.tree.proofs.AdjustLaws.{Rising, rising-start, rising-low, rising-countable, rising-next, rising-less, rising-end}
 use Rattle.tree.proofs.counter.adjust_up.Statement.{statement}
 use Rattle.tree.proofs.counter.adjust_up.Tie as tie
 
@@ -18,8 +18,7 @@ loop-holds c = rising-start _ _ _ _ _ (c .pre)
 adjust-requires : tie.Need-adjust-requires Inv-loop μ-loop
 adjust-requires c κs =
     let l = c .before .before in
-    let k = l .before .pre in
-    (rising-low _ _ _ _ _ k _ _ (l .loop .inv), (rising-room _ _ _ _ _ k _ _ (l .loop .inv), rising-enough _ _ _ _ _ k _ _ (l .loop .inv)))
+    rising-countable _ _ _ _ _ (l .before .pre) _ _ (l .loop .inv)
 
 parent-requires : tie.Need-parent-requires Inv-loop μ-loop
 parent-requires c κs =
@@ -41,8 +40,7 @@ loop-again c =
 adjust-requires-2 : tie.Need-adjust-requires-2 Inv-loop μ-loop
 adjust-requires-2 c κs =
     let l = c .before .before in
-    let k = l .before .pre in
-    (rising-low _ _ _ _ _ k _ _ (l .loop .inv), (rising-room _ _ _ _ _ k _ _ (l .loop .inv), rising-enough _ _ _ _ _ k _ _ (l .loop .inv)))
+    rising-countable _ _ _ _ _ (l .before .pre) _ _ (l .loop .inv)
 
 returns : tie.Need-returns Inv-loop μ-loop
 returns c =
