@@ -5,7 +5,7 @@ use native.Mathlib.Omega.{arith}
 use mathlib.Core.Bool.{Bool, true, false}
 use mathlib.Core.List.{List, [], _∷_}
 use mathlib.Core.Option.{Option, none, some}
-use mathlib.Core.Path.{_≡_, refl, ap, sym, _∙_}
+use mathlib.Core.Path.{_≡_, refl, ap, sym, _∙_, subst}
 use lib.ListN.{take}
 use borrow.Author.Tests.{le-leb, lt-leb}
 use Rattle.model.specs.Functions.{pick, passes, mapped, orElse}
@@ -22,7 +22,7 @@ use Rattle.model.specs.declared.Errno.the-variants.{Einval, Enoent, Esrch, Enos
 use Rattle.model.specs.declared.Answer.the-variants.{Done, Refused}
 use Rattle.model.specs.declared.ReadAnswer.{ReadAnswer}
 use Rattle.model.specs.declared.File.{File}
-use Rattle.model.proofs.FunctionLaws.{split}
+use Rattle.model.proofs.FunctionLaws.{split, clash}
 use Rattle.model.proofs.CheckLaws.{says-first, first-says}
 use Rattle.model.proofs.AmountLaws.{place-live}
 use Rattle.text.specs.Name.{asFileName}
@@ -31,6 +31,7 @@ use Rattle.text.specs.declared.name.FileName.{FileName}
 use Rattle.tree.specs.Layout.{view}
 use Rattle.tree.specs.Kept.{Kept}
 use Rattle.tree.specs.Calling.{Delivering}
+use Rattle.files.specs.Texts.{isListing, DeliversFile}
 
 module _ (xs : List ℕ) (c : Call) where
   reading-refused : (e : Errno) → verdict (view xs) c ≡ Refused e → Delivering xs c (ReadAnswer.Refused e) (bufferOf c)
@@ -50,6 +51,23 @@ last-check text old = go (fits text old)
     go : (b : Bool) → first (need b Enospc ∷ []) ≡ pick b Done (Refused Enospc)
     go true = refl
     go false = refl
+
+-- a text that was made at the front of an array, and delivered from there
+pub delivered-text : {a b text old new : List ℕ} {k : ℕ} {r : ReadAnswer} → Appended a 0 text b k → Delivered (take k b) old r new → Delivered text old r new
+delivered-text w d = rw (w .front) at d
+
+-- the listing is cgroup.procs
+is-procs : (f : File) → isListing f ≡ true → File.Procs ≡ f
+is-procs File.Procs e = refl
+is-procs File.Controllers e = clash false e refl
+is-procs File.SubtreeControl e = clash false e refl
+is-procs File.Events e = clash false e refl
+is-procs (File.Current r) e = clash false e refl
+is-procs (File.Value s) e = clash false e refl
+
+pub delivers-procs : (xs : List ℕ) (g : ℕ) (f : File) {old new : List ℕ} {r : ReadAnswer} → isListing f ≡ true
+    → DeliversFile xs g File.Procs old r new → DeliversFile xs g f old r new
+delivers-procs xs g f {old} {new} {r} e d = subst (λ (x : File). DeliversFile xs g x old r new) (is-procs f e) d
 
 -- ---- read
 
@@ -104,10 +122,8 @@ module _ (xs : List ℕ) (g : ℕ) (name old : List ℕ) where
             (first-says (need (fits (fileText (factsOf (view xs)) g name) old) Enospc ∷ []))))))
             ∙ last-check (fileText (factsOf (view xs)) g name) old
 
-        pub read-delivered : isPresent (view xs) g f ≡ true → {a b : List ℕ} {k : ℕ}
-            → Appended a 0 (contents (factsOf (view xs)) g f) b k → {r : ReadAnswer} {new : List ℕ}
-            → Delivered (take k b) old r new → Read r new
-        read-delivered a w d = reading-delivered _ _ (accepted a) (w .front ∙ sym text) d
+        pub read-delivered : isPresent (view xs) g f ≡ true → {r : ReadAnswer} {new : List ℕ} → DeliversFile xs g f old r new → Read r new
+        read-delivered a d = reading-delivered _ _ (accepted a) (sym text) d
 
 -- ---- membership
 

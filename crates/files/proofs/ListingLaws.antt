@@ -14,7 +14,7 @@ use Rattle.model.specs.Rules.{standsIn}
 use Rattle.model.specs.Files.{processLines}
 use Rattle.model.proofs.DecimalLaws.{length-decimal}
 use Rattle.text.specs.Write.{Appended}
-use Rattle.files.specs.Texts.{longestText}
+use Rattle.files.specs.Texts.{longestListing}
 use Rattle.files.proofs.WrittenLaws.{wrote-inside}
 
 pub length-process : (p : ℕ) → p < processes → length (decimal p) ≤ 3
@@ -50,7 +50,7 @@ module _ (place : ℕ → Place) (g : ℕ) where
       left : processes - p ≡ suc (processes - (p + 1))
       left = omega arith
 
-      pub listing-room : longestText ≤ length new → at + length (decimal p) + 1 ≤ length new
+      pub listing-room : longestListing ≤ length new → at + length (decimal p) + 1 ≤ length new
       listing-room r = omega (arith, l .short, length-process p h)
 
       pub listing-line : (out : List ℕ) (k : ℕ) → standsIn (place p) g ≡ true → Appended new at (ended (decimal p)) out k

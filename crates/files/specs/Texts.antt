@@ -1,6 +1,6 @@
 -- What the writers of a text's parts ask and write: document 01, "What a reader sees". Assumes nothing.
 use Prim.Native.Nat.{ℕ, _+_, _*_, _≤_}
-use mathlib.Core.Bool.{Bool, true}
+use mathlib.Core.Bool.{Bool, true, false}
 use mathlib.Core.List.{List, [], _∷_}
 use mathlib.Core.Path.{_≡_}
 use lib.Dec.{eqb}
@@ -12,26 +12,43 @@ use Rattle.model.specs.Text.{bytes, newline, space}
 use Rattle.model.specs.Hierarchy.{factsOf}
 use Rattle.model.specs.Files.{path, contents}
 use Rattle.model.specs.declared.File.{File}
-use Rattle.text.specs.Write.{Appended}
+use Rattle.model.specs.declared.ReadAnswer.{ReadAnswer}
+use Rattle.text.specs.Write.{Appended, Delivered}
 use Rattle.tree.specs.Layout.{view}
 use Rattle.tree.specs.Kept.{Kept, KeptAt}
 
--- no file is longer: a line of cgroup.procs has four bytes at most
-abbrev pub longestText : ℕ
-longestText = processes * 4
+-- cgroup.procs is no longer: a line of it has four bytes at most; and no other file is longer than that
+abbrev pub longestListing : ℕ
+longestListing = processes * 4
+
+abbrev pub longestOther : ℕ
+longestOther = 128
 
 -- no path is longer: two digits and a "/" for each group on it
 abbrev pub longestPath : ℕ
 longestPath = deepest * 3
 
--- a live group, and room for any of its files
+-- the one file that can be long
+abbrev pub isListing : File → Bool
+isListing File.Procs = true
+isListing File.Controllers = false
+isListing File.SubtreeControl = false
+isListing File.Events = false
+isListing (File.Current r) = false
+isListing (File.Value s) = false
+
+-- a live group, and room for any of its files but cgroup.procs
 pub record Ready (xs : List ℕ) (g : ℕ) (out : List ℕ) : Type 0 where
   pub group : KeptAt xs g
-  pub room : longestText ≤ length out
+  pub room : longestOther ≤ length out
 
 -- the text of a file at the front
 abbrev pub Renders : List ℕ → ℕ → File → List ℕ → List ℕ → ℕ → Type 0
 Renders xs g file old new k = Appended old 0 (contents (factsOf (view xs)) g file) new k
+
+-- the text of a file delivered
+abbrev pub DeliversFile : List ℕ → ℕ → File → List ℕ → ReadAnswer → List ℕ → Type 0
+DeliversFile xs g file old r new = Delivered (contents (factsOf (view xs)) g file) old r new
 
 -- a live group so deep, and room for its path
 pub record HasPath (xs : List ℕ) (g deep : ℕ) (out : List ℕ) (at : ℕ) : Type 0 where

@@ -1,12 +1,13 @@
 // The two calls that deliver a text: a file of a group, and the membership line of a process. Anyone may read.
 ghost use mathlib.Core.Path.{_≡_};
+ghost use mathlib.Core.Bool.{false};
 ghost use Rattle.model.specs.Files.{isPresent};
 ghost use Rattle.model.specs.Calls.{read, membership};
 ghost use Rattle.tree.specs.Layout.{view};
 ghost use Rattle.tree.specs.Counters.{HasParent};
-ghost use Rattle.tree.specs.Kept.{Kept};
+ghost use Rattle.tree.specs.Kept.{Kept, KeptAt};
 ghost use Rattle.tree.specs.Calling.{Delivering};
-ghost use Rattle.files.specs.Texts.{Ready, Renders};
+ghost use Rattle.files.specs.Texts.{isListing, Ready, Renders, DeliversFile};
 use super::list::put_controllers;
 use super::list::put_procs;
 use super::list::put_subtree_control;
@@ -31,8 +32,11 @@ use tree::rule::is_on;
 use tree::setting::controller_of;
 use tree::setting::setting_controller;
 
-// The longest text of a file: 257 process numbers, each a line of four bytes at most.
-const LONGEST_TEXT: usize = 1028;
+// The longest text of cgroup.procs: 257 process numbers, each a line of four bytes at most. No other file is longer than that, and
+// its array is cleared sooner.
+const LONGEST_LISTING: usize = 1028;
+
+const LONGEST_OTHER: usize = 128;
 
 // The longest membership line: "0::", eight numbers of two digits, each after "/", and a newline.
 const LONGEST_LINE: usize = 28;
@@ -52,19 +56,50 @@ fn is_present(t: &Tree, g: GroupId, file: File) -> bool
     }
 }
 
-// The text of a file.
+// The text of a file other than cgroup.procs.
 fn render(t: &Tree, g: GroupId, file: File, out: &mut [u8]) -> usize
-    requires { ⌜ Ready (now t) (g .0) (now out) ⌝ }
+    requires { ⌜ Ready (now t) (g .0) (now out) × (isListing file ≡ false) ⌝ }
     ensures { λ r. ⌜ Renders (now (t .entry)) (g .0) file (now (out .entry)) (now (out .exit)) r ⌝ }
 {
     match file {
-        File::Procs => put_procs(t, g, out),
+        File::Procs => 0,
         File::Controllers => put_controllers(t, g, out),
         File::SubtreeControl => put_subtree_control(t, g, out),
         File::Events => put_events(t, g, out),
         File::Current(s) => put_current(t, g, s, out),
         File::Value(s) => put_setting(t, g, s, out),
     }
+}
+
+// Whether it is the one file that can be long.
+fn is_listing(file: File) -> bool
+    ensures { λ r. ⌜ r ≡ isListing file ⌝ }
+{
+    match file {
+        File::Procs => true,
+        File::Controllers => false,
+        File::SubtreeControl => false,
+        File::Events => false,
+        File::Current(_) => false,
+        File::Value(_) => false,
+    }
+}
+
+fn read_procs(t: &Tree, g: GroupId, reply: &mut [u8]) -> ReadAnswer
+    ensures { λ r. ⌜ DeliversFile (now (t .entry)) (g .0) File.Procs (now (reply .entry)) r (now (reply .exit)) ⌝ }
+{
+    let mut scratch = [0u8; LONGEST_LISTING];
+    let end = put_procs(t, g, &mut scratch);
+    deliver(reply, &scratch[..end])
+}
+
+fn read_other(t: &Tree, g: GroupId, file: File, reply: &mut [u8]) -> ReadAnswer
+    requires { ⌜ KeptAt (now t) (g .0) × (isListing file ≡ false) ⌝ }
+    ensures { λ r. ⌜ DeliversFile (now (t .entry)) (g .0) file (now (reply .entry)) r (now (reply .exit)) ⌝ }
+{
+    let mut scratch = [0u8; LONGEST_OTHER];
+    let end = render(t, g, file, &mut scratch);
+    deliver(reply, &scratch[..end])
 }
 
 // A file of a group. 22 its number out of range; 2 not live, or no such file there; 28 the reply shorter than the text. A refusal
@@ -86,9 +121,10 @@ pub fn read(tree: &Tree, group: GroupId, file: &[u8], reply: &mut [u8]) -> ReadA
     if !is_present(tree, group, found) {
         return ReadAnswer::Refused(Errno::Enoent);
     }
-    let mut scratch = [0u8; LONGEST_TEXT];
-    let end = render(tree, group, found, &mut scratch);
-    deliver(reply, &scratch[..end])
+    if is_listing(found) {
+        return read_procs(tree, group, reply);
+    }
+    read_other(tree, group, found, reply)
 }
 
 // The membership line of a process. 3 not live; 28 the reply shorter than the line. A refusal leaves the reply as it was.

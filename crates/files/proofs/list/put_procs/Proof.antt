@@ -29,7 +29,7 @@ put-line-requires c κs =
     let l = c .before .before .before .before in
     let s = l .before .before in
     listing-room _ _ _ _ _ (l .loop .inv .1) (omega (arith, c .before .before .before .loop-test .taken))
-    (omega (arith, s .pre .room, l .loop .inv .0))
+    (omega (arith, s .pre, l .loop .inv .0))
 
 add-p : tie.Need-add-p Inv-loop μ-loop
 add-p c = omega arith

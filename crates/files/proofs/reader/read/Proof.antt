@@ -1,17 +1,20 @@
--- `files::reader::read` meets its contract: the text is made in a scratch array, and delivered. Assumes nothing.
-use Prim.Native.Nat.{_<_}
+-- `files::reader::read` meets its contract: what is found is delivered by one of two functions. Assumes nothing.
+use Prim.Native.Nat.{ℕ, _<_}
 use native.Mathlib.Omega.{arith}
 use mathlib.Core.Bool.{true}
+use mathlib.Core.List.{List}
 use mathlib.Core.Path.{_≡_, sym, _∙_}
-use lib.Seq.{length-take-le}
 use borrow.Author.Tests.{not-true, not-false}
 use borrow.Author.Needs.{needs}
 use Rattle.model.specs.Sizes.{groups}
 use Rattle.model.specs.Tree.{lives}
+use Rattle.model.specs.Calls.{read}
+use Rattle.model.specs.declared.ReadAnswer.{ReadAnswer}
 use Rattle.tree.specs.Layout.{view}
+use Rattle.tree.specs.Calling.{Delivering}
+use Rattle.files.specs.Texts.{DeliversFile}
 use Rattle.tree.proofs.KeptLaws.{live-row}
-use Rattle.files.proofs.WrittenLaws.{wrote-inside}
-use Rattle.files.proofs.DeliveryLaws.{read-no-number, read-dead, read-unknown, read-not-present, read-delivered}
+use Rattle.files.proofs.DeliveryLaws.{read-no-number, read-dead, read-unknown, read-not-present, read-delivered, delivers-procs}
 use Rattle.files.proofs.reader.read.Statement.{statement}
 use Rattle.files.proofs.reader.read.Tie as tie
 
@@ -77,37 +80,21 @@ returns-4 c =
     (sym (n .named .given .1) ∙ f .file-named .ensures)
     (sym (h .is-present .ensures) ∙ not-true _ (c .if3 .taken))
 
-slice-aggregate-render : tie.Need-slice-aggregate-render
-slice-aggregate-render c = search needs
+is-listing-requires : tie.Need-is-listing-requires
+is-listing-requires c κs = search needs
 
-render-requires : tie.Need-render-requires
-render-requires c κs =
-    let i = c .before .before .before .before .before .before .before in
-    let s = i .before .before .before .before .before .before in
-    record { group = record { kept = s .pre; live = live i }; room = omega arith }
-
-array-share-prefix-scratch : tie.Need-array-share-prefix-scratch
-array-share-prefix-scratch c =
-    let w = c .before .before in
-    omega (arith, wrote-inside (omega arith) (w .render .ensures), w .render .kept .1 .1 .1 .0)
-
-slice-aggregate-deliver : tie.Need-slice-aggregate-deliver
-slice-aggregate-deliver c =
-    let w = c .before .before .before in
-    sym (length-take-le _ _ (wrote-inside (omega arith) (w .render .ensures)))
-
-deliver-requires : tie.Need-deliver-requires
-deliver-requires c κs = search needs
+read-procs-requires : tie.Need-read-procs-requires
+read-procs-requires c κs = search needs
 
 same-length : tie.Need-same-length
 same-length c = search needs
 
--- the text, or 28
-returns-5 : tie.Need-returns-5
-returns-5 c =
-    let d = c .before .before in
-    let w = d .before .before .before .before in
-    let j = w .before .before in
+-- the file that was found is there, and is delivered
+delivered : (j : tie.Else3) {r : ReadAnswer} {new : List ℕ} →
+    let a = j .before .before .before .before .before .before .before .before .before .before .before .before .args in
+    DeliversFile (a .tree .now) (a .group .0) (j .before .before .before .named .given .0 .0) (a .reply .now) r new
+    → Delivering (a .tree .now) (read (a .group .0) (a .file .now) (a .reply .now)) r new
+delivered j d =
     let h = j .before in
     let n = h .before .before in
     let f = n .before .before in
@@ -115,9 +102,30 @@ returns-5 c =
     let a = i .before .before .before .before .before .before .args in
     read-delivered (a .tree .now) (a .group .0) (a .file .now) (a .reply .now) (low (i .before)) (live i) _
     (sym (n .named .given .1) ∙ f .file-named .ensures)
-    (sym (h .is-present .ensures) ∙ not-false _ (j .if3 .left))
-    (w .render .ensures)
-    (d .deliver .ensures)
+    (sym (h .is-present .ensures) ∙ not-false _ (j .if3 .left)) d
+
+returns-5 : tie.Need-returns-5
+returns-5 c =
+    let w = c .before .before in
+    let y = w .before .before in
+    let l = y .before in
+    let j = l .before in
+    let a = j .before .before .before .before .before .before .before .before .before .before .before .before .args in
+    delivered j
+    (delivers-procs (a .tree .now) (a .group .0) (j .before .before .before .named .given .0 .0) (sym (l .is-listing .ensures) ∙ y .if4 .taken) (w .read-procs .ensures))
+
+read-other-requires : tie.Need-read-other-requires
+read-other-requires c κs =
+    let y = c .before in
+    let l = y .before in
+    let i = l .before .before .before .before .before .before .before in
+    (record { kept = i .before .before .before .before .before .before .pre; live = live i }, sym (l .is-listing .ensures) ∙ y .if4 .left)
+
+same-length-2 : tie.Need-same-length-2
+same-length-2 c = search needs
+
+returns-6 : tie.Need-returns-6
+returns-6 c = let w = c .before .before in delivered (w .before .before .before .before) (w .read-other .ensures)
 
 pub read-spec : {M : Type 1} → statement M
 read-spec =
@@ -132,10 +140,10 @@ read-spec =
     returns-3
     is-present-requires
     returns-4
-    slice-aggregate-render
-    render-requires
-    array-share-prefix-scratch
-    slice-aggregate-deliver
-    deliver-requires
+    is-listing-requires
+    read-procs-requires
     same-length
-    returns-5)
+    returns-5
+    read-other-requires
+    same-length-2
+    returns-6)

@@ -1,11 +1,13 @@
 -- `files::reader::render` meets its contract: each arm writes the file that it matches. Assumes nothing.
-use mathlib.Core.Path.{_≡_, ap, sym}
+use mathlib.Core.Path.{_≡_, refl, ap, sym, _∙_}
 use borrow.Author.Needs.{needs}
 use Rattle.model.specs.Hierarchy.{factsOf}
 use Rattle.model.specs.Files.{contents}
 use Rattle.model.specs.declared.File.{File}
+use Rattle.model.proofs.FunctionLaws.{clash}
 use Rattle.text.proofs.WriteLaws.{wrote-as}
 use Rattle.tree.specs.Layout.{view}
+use Rattle.files.specs.Texts.{isListing}
 use Rattle.files.proofs.reader.render.Statement.{statement}
 use Rattle.files.proofs.reader.render.Tie as tie
 
@@ -17,9 +19,6 @@ shows s e = ap (contents (factsOf (view (s .args .t .now))) (s .args .g .0)) e
 
 enum-told : tie.Need-enum-told
 enum-told c = search needs
-
-put-procs-requires : tie.Need-put-procs-requires
-put-procs-requires c κs = search needs
 
 enum-told-2 : tie.Need-enum-told-2
 enum-told-2 c = search needs
@@ -51,17 +50,11 @@ enum-known-file-2 c = search needs
 put-setting-requires : tie.Need-put-setting-requires
 put-setting-requires c κs = search needs
 
+returns : tie.Need-returns
+returns c = clash (isListing File.Procs) refl (ap isListing (sym (c .enum-told .given .1)) ∙ c .before .before .before .pre .1)
+
 same-length : tie.Need-same-length
 same-length c = search needs
-
-returns : tie.Need-returns
-returns c =
-    let w = c .before .before in
-    let m = w .before .before in
-    wrote-as (shows (m .before .before .before) (sym (m .enum-told .given .1))) (w .put-procs .ensures)
-
-same-length-2 : tie.Need-same-length-2
-same-length-2 c = search needs
 
 returns-2 : tie.Need-returns-2
 returns-2 c =
@@ -69,8 +62,8 @@ returns-2 c =
     let m = w .before .before in
     wrote-as (shows (m .before .before .before) (sym (m .enum-told2 .given .1))) (w .put-controllers .ensures)
 
-same-length-3 : tie.Need-same-length-3
-same-length-3 c = search needs
+same-length-2 : tie.Need-same-length-2
+same-length-2 c = search needs
 
 returns-3 : tie.Need-returns-3
 returns-3 c =
@@ -78,8 +71,8 @@ returns-3 c =
     let m = w .before .before in
     wrote-as (shows (m .before .before .before) (sym (m .enum-told3 .given .1))) (w .put-subtree-control .ensures)
 
-same-length-4 : tie.Need-same-length-4
-same-length-4 c = search needs
+same-length-3 : tie.Need-same-length-3
+same-length-3 c = search needs
 
 returns-4 : tie.Need-returns-4
 returns-4 c =
@@ -87,8 +80,8 @@ returns-4 c =
     let m = w .before .before in
     wrote-as (shows (m .before .before .before) (sym (m .enum-told4 .given .1))) (w .put-events .ensures)
 
-same-length-5 : tie.Need-same-length-5
-same-length-5 c = search needs
+same-length-4 : tie.Need-same-length-4
+same-length-4 c = search needs
 
 returns-5 : tie.Need-returns-5
 returns-5 c =
@@ -96,8 +89,8 @@ returns-5 c =
     let m = w .before .before .before in
     wrote-as (shows (m .before .before .before) (sym (m .file .given .1))) (w .put-current .ensures)
 
-same-length-6 : tie.Need-same-length-6
-same-length-6 c = search needs
+same-length-5 : tie.Need-same-length-5
+same-length-5 c = search needs
 
 returns-6 : tie.Need-returns-6
 returns-6 c =
@@ -110,7 +103,6 @@ render-spec =
     tie.close
     (tie.spec
     enum-told
-    put-procs-requires
     enum-told-2
     put-controllers-requires
     enum-told-3
@@ -121,15 +113,14 @@ render-spec =
     put-current-requires
     enum-known-file-2
     put-setting-requires
-    same-length
     returns
-    same-length-2
+    same-length
     returns-2
-    same-length-3
+    same-length-2
     returns-3
-    same-length-4
+    same-length-3
     returns-4
-    same-length-5
+    same-length-4
     returns-5
-    same-length-6
+    same-length-5
     returns-6)
