@@ -1,6 +1,6 @@
 // Figures of a resource's files and amounts of the resource, both ways: memory.max and memory.current are in bytes and
 // the tree counts pages; pids.max and pids.current count processes as the tree does.
-ghost use Prim.Native.Nat.{_<_, _≤_};
+ghost use Prim.Native.Nat.{_^_, _<_, _≤_};
 ghost use mathlib.Core.Bool.{true};
 ghost use mathlib.Core.Path.{_≡_};
 ghost use Rattle.model.specs.Settings.{figureIn, largest, toPages, toAmount, toFigure, mapLimit};
@@ -30,7 +30,7 @@ fn to_amount(r: Resource, n: u64) -> u64
 
 // An amount as the files show it.
 pub fn to_figure(r: Resource, n: u64) -> u64
-    requires { ⌜ toFigure r n < 18446744073709551616 ⌝ }
+    requires { ⌜ toFigure r n < 2 ^ 64 ⌝ }
     ensures { λ k. ⌜ k ≡ toFigure r n ⌝ }
 {
     match r {
