@@ -72,14 +72,14 @@ flag-word v w a b e =
     omega arith)
 
 -- what holds at each place below n, the last first
-Below : (ℕ → Type 0) → ℕ → Type 0
-Below P zero = Unit {0}
-Below P (suc n) = P n × Below P n
+infixr 5 _▹_
+data Below (P : ℕ → Type 0) : ℕ → Type 0 where
+  none : Below P zero
+  _▹_ : {n : ℕ} → P n → Below P n → Below P (suc n)
 
 below : (P : ℕ → Type 0) (n : ℕ) → Below P n → (k : ℕ) → k < n → P k
-unfolding Below
-below P zero b k l = absurd (omega arith)
-below P (suc n) b k l = whether k n (λ e. rw e (b .0)) (λ ne. below P n (b .1) k (omega arith))
+below P zero none k l = absurd (omega arith)
+below P (suc n) (x ▹ b) k l = whether k n (λ e. rw e x) (λ ne. below P n b k (omega arith))
 
 -- a row is its group, its sums and zeros
 module _ (v w : ℕ → ℕ) (a : SpareRow v) (b : SpareRow w) (sums : (c : Counter) → v (sumField c) ≡ w (sumField c)) (e : groupRow v ≡ groupRow w) where
@@ -87,56 +87,24 @@ module _ (v w : ℕ → ℕ) (a : SpareRow v) (b : SpareRow w) (sums : (c : Coun
   flag k from to f = flag-word (v k) (w k) (a .flags k from to) (b .flags k from to) f
 
   places-same : Below (λ k. v k ≡ w k) used
-  unfolding Below
-  places-same = (
-    limit-word _ _ (ap (λ (g : Group). g .core .limit Processes) e),
-    (
-      limit-word _ _ (ap (λ (g : Group). g .core .limit Pages) e),
-      (
-        ap (λ (g : Group). g .core .own) e,
-        (
-          ap (λ (g : Group). g .cpu .period) e,
-          (
-            limit-word _ _ (ap (λ (g : Group). g .cpu .quota) e),
-            (
-              ap (λ (g : Group). g .cpu .weight) e,
-              (
-                ap (λ (g : Group). g .owner) e,
-                (
-                  ap (λ (g : Group). g .depth) e,
-                  (
-                    ap (λ (g : Group). g .core .parent) e,
-                    (
-                      flag (setField Pids) (omega arith) (omega arith) (ap (λ (g : Group). g .set Pids) e),
-                      (
-                        flag (setField Memory) (omega arith) (omega arith) (ap (λ (g : Group). g .set Memory) e),
-                        (
-                          flag (setField Cpu) (omega arith) (omega arith) (ap (λ (g : Group). g .set Cpu) e),
-                          (
-                            flag liveField (omega arith) (omega arith) (ap (λ (g : Group). g .core .live) e),
-                            (
-                              sums Children,
-                              (
-                                sums (Of Processes),
-                                (
-                                  sums (Of Pages),
-                                  tt,
-                                ),
-                              ),
-                            ),
-                          ),
-                        ),
-                      ),
-                    ),
-                  ),
-                ),
-              ),
-            ),
-          ),
-        ),
-      ),
-    ),
-  )
+  places-same =
+      limit-word _ _ (ap (λ (g : Group). g .core .limit Processes) e)
+      ▹ limit-word _ _ (ap (λ (g : Group). g .core .limit Pages) e)
+      ▹ ap (λ (g : Group). g .core .own) e
+      ▹ ap (λ (g : Group). g .cpu .period) e
+      ▹ limit-word _ _ (ap (λ (g : Group). g .cpu .quota) e)
+      ▹ ap (λ (g : Group). g .cpu .weight) e
+      ▹ ap (λ (g : Group). g .owner) e
+      ▹ ap (λ (g : Group). g .depth) e
+      ▹ ap (λ (g : Group). g .core .parent) e
+      ▹ flag (setField Pids) (omega arith) (omega arith) (ap (λ (g : Group). g .set Pids) e)
+      ▹ flag (setField Memory) (omega arith) (omega arith) (ap (λ (g : Group). g .set Memory) e)
+      ▹ flag (setField Cpu) (omega arith) (omega arith) (ap (λ (g : Group). g .set Cpu) e)
+      ▹ flag liveField (omega arith) (omega arith) (ap (λ (g : Group). g .core .live) e)
+      ▹ sums Children
+      ▹ sums (Of Processes)
+      ▹ sums (Of Pages)
+      ▹ none
 
   row-same : (k : ℕ) → k < rowWords → v k ≡ w k
   row-same k l =
