@@ -9,7 +9,7 @@ use mathlib.Core.Logic.{_≢_}
 use mathlib.Core.Path.{_≡_, refl, ap, sym, _∙_}
 use lib.ListN.{length, length-append}
 use borrow.Author.Tests.{eq-eqb, ne-eqb}
-use Rattle.model.specs.Sizes.{deepest}
+use Rattle.model.specs.Sizes.{deepest, processes}
 use Rattle.model.specs.Tree.{at, lives, isLive, groupOf, parents, depths, places}
 use Rattle.model.specs.Text.{bytes, newline, decimal}
 use Rattle.model.specs.Files.{path, membershipLine}
@@ -145,7 +145,7 @@ module _ (xs : List ℕ) (g : ℕ) (k : KeptAt xs g) where
 -- ---- the membership line of a live process
 
 module _ (xs : List ℕ) (k : Kept xs) (p : ℕ) (l : isLive (places (view xs) p) ≡ true) where
-  pub live-number : p < 257
+  pub live-number : p < processes
   live-number = k .formed .placed .range p _ (place-live (places (view xs) p) l)
 
   pub live-group : (g : ℕ) → g ≡ groupOf (places (view xs) p) → KeptAt xs g

@@ -24,6 +24,7 @@ use text::name::FileName;
 use text::name::file_named;
 use text::write::deliver;
 use tree::group::is_live;
+use tree::layout::DEEPEST;
 use tree::layout::GROUPS;
 use tree::layout::PROCESSES;
 use tree::layout::Tree;
@@ -32,14 +33,14 @@ use tree::rule::is_on;
 use tree::setting::controller_of;
 use tree::setting::setting_controller;
 
-// The longest text of cgroup.procs: 257 process numbers, each a line of four bytes at most. No other file is longer than that, and
-// its array is cleared sooner.
-const LONGEST_LISTING: usize = 1028;
+// The longest text of cgroup.procs: every process number, each a line of four bytes at most. No other file is longer than the second, whose
+// array is cleared sooner.
+const LONGEST_LISTING: usize = PROCESSES as usize * 4;
 
 const LONGEST_OTHER: usize = 128;
 
-// The longest membership line: "0::", eight numbers of two digits, each after "/", and a newline.
-const LONGEST_LINE: usize = 28;
+// The longest membership line: "0::", for each level a number of two digits at most after "/", and a newline.
+const LONGEST_LINE: usize = DEEPEST as usize * 3 + 4;
 
 // Whether a group has the file.
 fn is_present(t: &Tree, g: GroupId, file: File) -> bool
