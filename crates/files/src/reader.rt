@@ -33,8 +33,8 @@ use tree::rule::is_on;
 use tree::setting::controller_of;
 use tree::setting::setting_controller;
 
-// The longest text of cgroup.procs: every process number, each a line of four bytes at most. No other file is longer than the second, whose
-// array is cleared sooner.
+// The longest text of cgroup.procs: every process number, each a line of four bytes at most. The array for any other file is
+// smaller, and so cleared sooner.
 const LONGEST_LISTING: usize = PROCESSES as usize * 4;
 
 const LONGEST_OTHER: usize = 128;
