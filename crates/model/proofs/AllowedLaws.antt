@@ -9,7 +9,7 @@ use borrow.Author.Tests.{le-leb}
 use Rattle.model.specs.Functions.{All}
 use Rattle.model.specs.Tree.{CpuSettings, Settings, newSettings}
 use Rattle.model.specs.Figures.{figureIn}
-use Rattle.model.specs.Settings.{settingController, largest, inRange, toAmount, toFigure, mapLimit, put, shown, part, reset, Allowed}
+use Rattle.model.specs.Settings.{settingController, largest, inRange, toAmount, toFigure, mapLimit, put, shown, piece, reset, Allowed}
 use Rattle.model.specs.declared.Resource.{Resource}
 use Rattle.model.specs.declared.Resource.the-variants.{Pages, Processes}
 use Rattle.model.specs.declared.Limit.{Limit}
@@ -22,7 +22,7 @@ use Rattle.model.specs.declared.SettingValue.the-variants.{Weight, Quota
 use Rattle.model.proofs.FunctionLaws.{split}
 use Rattle.model.proofs.FigureLaws.{between-le}
 use Rattle.model.proofs.SettingLaws.{withLimit-all, range-of-period}
-use Rattle.model.proofs.PartLaws.{part-reset, part-kept}
+use Rattle.model.proofs.PieceLaws.{piece-reset, piece-kept}
 
 -- What is allowed, after a change.
 abbrev InRange : SettingValue → Type 0
@@ -38,12 +38,12 @@ allowed-new = record { values = values }
     values (Max r) = (refl, tt)
 
 -- what a setting shows is its controller's part alone
-shown-of-part : (s : Setting) (st su : Settings) → part (settingController s) st ≡ part (settingController s) su → shown s st ≡ shown s su
+shown-of-piece : (s : Setting) (st su : Settings) → piece (settingController s) st ≡ piece (settingController s) su → shown s st ≡ shown s su
 unfolding shown
-shown-of-part CpuWeight st su e = ap (λ (x : CpuSettings). Weight (x .weight) ∷ []) e
-shown-of-part CpuMax st su e = ap (λ (x : CpuSettings). Bandwidth (x .quota) (x .period) ∷ []) e
-shown-of-part (Max Pages) st su e = ap (λ (l : Limit). Maximum Pages (mapLimit (toFigure Pages) l) ∷ []) e
-shown-of-part (Max Processes) st su e = ap (λ (l : Limit). Maximum Processes (mapLimit (toFigure Processes) l) ∷ []) e
+shown-of-piece CpuWeight st su e = ap (λ (x : CpuSettings). Weight (x .weight) ∷ []) e
+shown-of-piece CpuMax st su e = ap (λ (x : CpuSettings). Bandwidth (x .quota) (x .period) ∷ []) e
+shown-of-piece (Max Pages) st su e = ap (λ (l : Limit). Maximum Pages (mapLimit (toFigure Pages) l) ∷ []) e
+shown-of-piece (Max Processes) st su e = ap (λ (l : Limit). Maximum Processes (mapLimit (toFigure Processes) l) ∷ []) e
 
 pub allowed-after-reset : (gone : Controller → Bool) (st : Settings) → Allowed st → Allowed (reset gone st)
 allowed-after-reset gone st h =
@@ -51,8 +51,8 @@ allowed-after-reset gone st h =
       values = λ s.
           let c : Controller = settingController s in
           split (gone c)
-          (λ y. rw (shown-of-part s (reset gone st) newSettings (part-reset gone c st y)) (allowed-new .values s))
-          (λ n. rw (shown-of-part s (reset gone st) st (part-kept gone c st n)) (h .values s));
+          (λ y. rw (shown-of-piece s (reset gone st) newSettings (piece-reset gone c st y)) (allowed-new .values s))
+          (λ n. rw (shown-of-piece s (reset gone st) st (piece-kept gone c st n)) (h .values s));
     }
 
 -- rounding does not leave the range

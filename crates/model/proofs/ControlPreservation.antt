@@ -17,7 +17,7 @@ use Rattle.model.specs.declared.Controller.{Controller}
 use Rattle.model.proofs.FunctionLaws.{split, whether, clash, and-left, and-right, upd-same, upd-other, upd-map, upd-keeps}
 use Rattle.model.proofs.AmountLaws.{amount-same}
 use Rattle.model.proofs.RuleLaws.{untaken-group, sound-eq, placed-eq, top-down-eq, defaults-eq, ranges-eq, quiet-eq, top-down-after-control, quiet-after-set, on-other}
-use Rattle.model.proofs.PartLaws.{default-of-reset, default-after-reset}
+use Rattle.model.proofs.PieceLaws.{default-of-reset, default-after-reset}
 use Rattle.model.proofs.AllowedLaws.{allowed-after-reset}
 
 -- A live child is live, is not the root, and has g for its parent.

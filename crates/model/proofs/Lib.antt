@@ -14,7 +14,7 @@ pub mod DecimalLaws
 pub mod NameLaws
 pub mod FigureLaws
 pub mod SettingLaws
-pub mod PartLaws
+pub mod PieceLaws
 pub mod AllowedLaws
 pub mod SettingTextLaws
 pub mod Preservation

@@ -11,7 +11,7 @@ use Rattle.model.specs.WellFormed.{WellFormed}
 use Rattle.model.specs.Demands.{Reachable}
 use Rattle.model.proofs.FunctionLaws.{whether, clash, upd-same, upd-other, upd-map, upd-all}
 use Rattle.model.proofs.AmountLaws.{usage-fresh}
-use Rattle.model.proofs.PartLaws.{default-new}
+use Rattle.model.proofs.PieceLaws.{default-new}
 use Rattle.model.proofs.AllowedLaws.{allowed-new}
 use Rattle.model.proofs.Steps.{well-formed-run}
 use Rattle.model.proofs.Books.{run-more}

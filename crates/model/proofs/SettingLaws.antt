@@ -1,5 +1,5 @@
 -- Laws of the settings: ranges; values shown and put back; which setting a value is for. What a reset and a value do to a controller's
--- part is in PartLaws, to what is allowed in AllowedLaws; how values read as text is in SettingTextLaws. Assumes nothing.
+-- piece is in PieceLaws, to what is allowed in AllowedLaws; how values read as text is in SettingTextLaws. Assumes nothing.
 use Prim.Native.Nat.{ℕ}
 use native.Mathlib.Omega.{arith}
 use mathlib.Core.Bool.{true}

@@ -33,7 +33,7 @@ use Rattle.model.proofs.FunctionLaws.{split, clash, and-false, any-none
 use Rattle.model.proofs.CheckLaws.{first-pass}
 use Rattle.model.proofs.AmountLaws.{place-live, place-free}
 use Rattle.model.proofs.ControlLaws.{any-controller-none, set-after-true, join-none, leave-true}
-use Rattle.model.proofs.PartLaws.{default-new, default-after-put}
+use Rattle.model.proofs.PieceLaws.{default-new, default-after-put}
 use Rattle.model.proofs.AllowedLaws.{allowed-new, allowed-after-put}
 use Rattle.model.proofs.RoomLaws.{room-on-chain, over-figure, machine-acts}
 use Rattle.model.proofs.RuleLaws.{NoChild, untaken-group, untaken-process}

@@ -1,6 +1,6 @@
 -- The settings: their words, ranges, defaults, and what a reader sees of them. Document 01, "Write a setting" and "Settings and
 -- defaults". A value is read in three steps, as the paper's two refusals ask: its form, its range, its effect.
--- What is particular to a controller is `part`, its own piece of the settings. Assumes nothing.
+-- What is particular to a controller is `piece`, its own piece of the settings. Assumes nothing.
 use Prim.Native.Nat.{ℕ, _+_, _-_, _*_, _/_}
 use mathlib.Core.Bool.{Bool, true, _&&_}
 use mathlib.Core.List.{List, [], _∷_, _++_, map}
@@ -103,19 +103,19 @@ abbrev pub shownLines : Setting → Settings → List (List ℕ)
 shownLines x s = map ended (map valueText (shown x s))
 
 -- the piece of the settings that is a controller's
-abbrev pub Part : Controller → Type 0
-Part Cpu = CpuSettings
-Part Memory = Limit
-Part Pids = Limit
+abbrev pub Piece : Controller → Type 0
+Piece Cpu = CpuSettings
+Piece Memory = Limit
+Piece Pids = Limit
 
-abbrev pub part : (c : Controller) → Settings → Part c
-part Cpu s = s .cpu
-part Memory s = s .limit Pages
-part Pids s = s .limit Processes
+abbrev pub piece : (c : Controller) → Settings → Piece c
+piece Cpu s = s .cpu
+piece Memory s = s .limit Pages
+piece Pids s = s .limit Processes
 
 -- "Settings and defaults": whether a controller's settings are at their defaults
 unfoldable pub AtDefault : Controller → Settings → Type 0
-AtDefault c s = part c s ≡ part c newSettings
+AtDefault c s = piece c s ≡ piece c newSettings
 
 -- the settings with those of some controllers back at their defaults
 unfoldable pub reset : (Controller → Bool) → Settings → Settings
