@@ -25,9 +25,7 @@ use Rattle.model.specs.declared.File.{File}
 use Rattle.model.proofs.FunctionLaws.{split, clash}
 use Rattle.model.proofs.CheckLaws.{says-first, first-says}
 use Rattle.model.proofs.AmountLaws.{place-live}
-use Rattle.text.specs.Name.{asFileName}
 use Rattle.text.specs.Write.{Appended, Delivered, delivery}
-use Rattle.text.specs.declared.name.FileName.{FileName}
 use Rattle.tree.specs.Layout.{view}
 use Rattle.tree.specs.Kept.{Kept}
 use Rattle.tree.specs.Calling.{Delivering}
@@ -89,21 +87,10 @@ module _ (xs : List ℕ) (g : ℕ) (name old : List ℕ) where
       unfolding verdict checks
       read-absent a = reading-refused _ _ Enoent (sym (says-first (past (lt-leb groups g h) (met l (lacking a)))))
 
-      pub read-unknown : FileName.Unknown ≡ asFileName (fileNamed name) → Read (ReadAnswer.Refused Enoent) old
-      read-unknown u = read-absent (go (fileNamed name) u)
-        where
-          go : (o : Option File) → FileName.Unknown ≡ asFileName o → passes o (isPresent (view xs) g) ≡ false
-          go none e = refl
-          go (some f) e = let z : _≡_ {A = ℕ} 0 1 = cc in absurd (omega arith)
+      pub read-unknown : fileNamed name ≡ none → Read (ReadAnswer.Refused Enoent) old
+      read-unknown u = read-absent (ap (λ (o : Option File). passes o (isPresent (view xs) g)) u)
 
-      module _ (f : File) (u : FileName.Of f ≡ asFileName (fileNamed name)) where
-        found : fileNamed name ≡ some f
-        found = go (fileNamed name) u
-          where
-            go : (o : Option File) → FileName.Of f ≡ asFileName o → o ≡ some f
-            go none e = let z : _≡_ {A = ℕ} 0 1 = cc in absurd (omega arith)
-            go (some b) e = cc
-
+      module _ (f : File) (found : fileNamed name ≡ some f) where
         pub read-not-present : isPresent (view xs) g f ≡ false → Read (ReadAnswer.Refused Enoent) old
         read-not-present a = read-absent (ap (λ (o : Option File). passes o (isPresent (view xs) g)) found ∙ a)
 

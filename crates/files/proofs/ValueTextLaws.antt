@@ -1,4 +1,4 @@
--- Laws of the files that are one value: the running sums are what the definitions count, and the figures are small.
+-- Laws of the files that are one value: their texts, and that the figures are small.
 -- Assumes nothing.
 use Prim.Native.Nat.{ℕ, _+_, _^_, _≤_, _<_}
 use native.Mathlib.Omega.{arith}
@@ -10,11 +10,12 @@ use lib.ListN.{length, length-append}
 use borrow.Author.Tests.{eq-eqb, ne-eqb}
 use Rattle.model.specs.Functions.{All}
 use Rattle.model.specs.Sizes.{largestMachine, longestLine}
-use Rattle.model.specs.Tree.{Settings, settingsAt}
+use Rattle.model.specs.Tree.{Tree, Settings, settingsAt}
 use Rattle.model.specs.Hierarchy.{factsOf}
 use Rattle.model.specs.Text.{bytes, newline, space, ended, joined, decimal}
 use Rattle.model.specs.Settings.{largest, figureIn, inRange, toFigure, mapLimit, shown, limitText, valueText, Allowed}
 use Rattle.model.specs.Files.{contents}
+use Rattle.model.specs.WellFormed.{WellFormed}
 use Rattle.model.specs.declared.Resource.{Resource}
 use Rattle.model.specs.declared.Resource.the-variants.{Pages, Processes}
 use Rattle.model.specs.declared.Limit.{Limit}
@@ -25,10 +26,10 @@ use Rattle.model.specs.declared.SettingValue.the-variants.{Weight, Bandwidth, M
 use Rattle.model.specs.declared.File.the-variants.{Events, Current, Value}
 use Rattle.model.proofs.DecimalLaws.{length-decimal}
 use Rattle.model.proofs.SettingTextLaws.{shown-short}
-use Rattle.tree.specs.Layout.{view, sumIn}
+use Rattle.tree.specs.Layout.{view}
 use Rattle.tree.specs.declared.sum.Counter.the-variants.{Of}
-use Rattle.tree.specs.Kept.{KeptAt}
-use Rattle.tree.proofs.KeptLaws.{sum-small}
+use Rattle.tree.specs.Kept.{countIn, KeptAt}
+use Rattle.tree.proofs.KeptLaws.{count-small}
 
 -- ---- the text of one value
 
@@ -48,34 +49,34 @@ figure-small : (r : Resource) (n : ℕ) → n ≤ largestMachine → toFigure r 
 figure-small Pages n h = omega arith
 figure-small Processes n h = omega arith
 
-module _ (xs : List ℕ) (g : ℕ) (k : KeptAt xs g) where
-  -- ---- counts
+-- ---- counts
 
-  pub figure-fits : (r : Resource) (n : ℕ) → n ≡ sumIn xs (Of r) g → toFigure r n < 2 ^ 64
-  figure-fits r n e = omega (arith, figure-small r n (omega (arith, sum-small xs (k .kept) (Of r) g)))
+module _ (t : Tree) (w : WellFormed t) (g : ℕ) where
+  pub figure-fits : (r : Resource) (n : ℕ) → n ≡ countIn t (Of r) g → toFigure r n < 2 ^ 64
+  figure-fits r n e = omega (arith, figure-small r n (omega (arith, count-small t w (Of r) g)))
 
-  pub length-figure : (r : Resource) (n f : ℕ) → n ≡ sumIn xs (Of r) g → f ≡ toFigure r n → length (decimal f) ≤ 16
+  pub length-figure : (r : Resource) (n f : ℕ) → n ≡ countIn t (Of r) g → f ≡ toFigure r n → length (decimal f) ≤ 16
   length-figure r n f e q =
-      let small = figure-small r n (omega (arith, sum-small xs (k .kept) (Of r) g)) in
+      let small = figure-small r n (omega (arith, count-small t w (Of r) g)) in
       length-decimal f 16 (omega (arith, small)) (omega arith)
 
-  pub current-text : (r : Resource) (n f : ℕ) → n ≡ sumIn xs (Of r) g → f ≡ toFigure r n
-      → ended (decimal f) ≡ contents (factsOf (view xs)) g (Current r)
+module _ (t : Tree) (g : ℕ) where
+  pub current-text : (r : Resource) (n f : ℕ) → n ≡ countIn t (Of r) g → f ≡ toFigure r n
+      → ended (decimal f) ≡ contents (factsOf t) g (Current r)
   unfolding contents
-  current-text r n f e q = ap (λ (m : ℕ). ended (decimal m)) (q ∙ ap (toFigure r) (e ∙ k .kept .sums (Of r) g))
+  current-text r n f e q = ap (λ (m : ℕ). ended (decimal m)) (q ∙ ap (toFigure r) e)
 
-  pub events-none : (n : ℕ) → n ≡ sumIn xs (Of Processes) g → n ≡ 0
-      → bytes "populated 0\n" ≡ contents (factsOf (view xs)) g Events
+  pub events-none : (n : ℕ) → n ≡ countIn t (Of Processes) g → n ≡ 0 → bytes "populated 0\n" ≡ contents (factsOf t) g Events
   unfolding contents
-  events-none n e z = rw (eq-eqb _ 0 (sym (e ∙ k .kept .sums (Of Processes) g) ∙ z))
+  events-none n e z = rw (eq-eqb _ 0 (sym e ∙ z))
 
-  pub events-some : (n : ℕ) → n ≡ sumIn xs (Of Processes) g → n ≢ 0
-      → bytes "populated 1\n" ≡ contents (factsOf (view xs)) g Events
+  pub events-some : (n : ℕ) → n ≡ countIn t (Of Processes) g → n ≢ 0 → bytes "populated 1\n" ≡ contents (factsOf t) g Events
   unfolding contents
-  events-some n e z = rw (ne-eqb _ 0 (λ w. z (e ∙ k .kept .sums (Of Processes) g ∙ w)))
+  events-some n e z = rw (ne-eqb _ 0 (λ w. z (e ∙ w)))
 
-  -- ---- settings
+-- ---- settings
 
+module _ (xs : List ℕ) (g : ℕ) (k : KeptAt xs g) where
   abbrev settings : Settings
   settings = settingsAt (view xs) g
 

@@ -20,8 +20,9 @@ use model::File;
 use model::GroupId;
 use model::ProcessId;
 use model::ReadAnswer;
-use text::name::FileName;
-use text::name::file_named;
+use text::name::FILES;
+use text::name::file_at;
+use text::name::file_place;
 use text::write::deliver;
 use tree::group::is_live;
 use tree::layout::DEEPEST;
@@ -115,10 +116,11 @@ pub fn read(tree: &Tree, group: GroupId, file: &[u8], reply: &mut [u8]) -> ReadA
     if !is_live(tree, group) {
         return ReadAnswer::Refused(Errno::Enoent);
     }
-    let named = file_named(file);
-    let FileName::Of(found) = named else {
+    let place = file_place(file);
+    if FILES <= place {
         return ReadAnswer::Refused(Errno::Enoent);
-    };
+    }
+    let found = file_at(place);
     if !is_present(tree, group, found) {
         return ReadAnswer::Refused(Errno::Enoent);
     }

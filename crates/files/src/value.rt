@@ -18,20 +18,20 @@ use text::amount::to_figure;
 use text::write::put_byte;
 use text::write::put_limit;
 use text::write::put_text;
+use tree::counter::count;
 use tree::layout::Tree;
 use tree::setting::limit;
 use tree::setting::period;
 use tree::setting::quota;
 use tree::setting::weight;
 use tree::sum::Counter;
-use tree::sum::sum;
 
 // Whether a live process is inside the group.
 pub fn put_events(t: &Tree, g: GroupId, out: &mut [u8]) -> usize
     requires { ⌜ Ready (now t) (g .0) (now out) ⌝ }
     ensures { λ r. ⌜ Renders (now (t .entry)) (g .0) File.Events (now (out .entry)) (now (out .exit)) r ⌝ }
 {
-    if sum(t, g, Counter::Of(Resource::Processes)) == 0 {
+    if count(t, g, Counter::Of(Resource::Processes)) == 0 {
         return put_text(out, 0, b"populated 0\n");
     }
     put_text(out, 0, b"populated 1\n")
@@ -42,7 +42,7 @@ pub fn put_current(t: &Tree, g: GroupId, s: Resource, out: &mut [u8]) -> usize
     requires { ⌜ Ready (now t) (g .0) (now out) ⌝ }
     ensures { λ r. ⌜ Renders (now (t .entry)) (g .0) (File.Current s) (now (out .entry)) (now (out .exit)) r ⌝ }
 {
-    let figure = to_figure(s, sum(t, g, Counter::Of(s)));
+    let figure = to_figure(s, count(t, g, Counter::Of(s)));
     put_line(out, 0, figure)
 }
 

@@ -1,9 +1,8 @@
--- What the counts in a group's own row say of it: whether it has a live child, and, where it has none, whether a live process
--- stands in it. Assumes nothing.
+-- What is counted in a group says of it whether it has a live child, and, where it has none, whether a live process stands in
+-- it. Assumes nothing.
 use Prim.Native.Nat.{ℕ, zero, suc, _+_}
 use native.Mathlib.Omega.{arith}
 use mathlib.Core.Bool.{Bool, true, false, not}
-use mathlib.Core.List.{List}
 use mathlib.Core.Path.{_≡_, refl, sym}
 use lib.Dec.{eqb}
 use borrow.Author.Tests.{eq-eqb, ne-eqb}
@@ -18,8 +17,7 @@ use Rattle.model.proofs.FunctionLaws.{split, whether, weigh-yes, weigh-no, weig
 use Rattle.model.proofs.ChainLaws.{inside-self, leaf-alone}
 use Rattle.model.proofs.RuleLaws.{NoChild}
 use Rattle.model.proofs.Steps.{no-child}
-use Rattle.tree.specs.Layout.{view, sumIn}
-use Rattle.tree.specs.Kept.{children, Kept, KeptAt}
+use Rattle.tree.specs.Kept.{children, countIn}
 use Rattle.tree.specs.declared.sum.Counter.the-variants.{Of, Children}
 
 -- Counted one by one, some number below n passes a test just where the count is not 0.
@@ -31,10 +29,9 @@ any-counted (suc n) f h e =
     (λ y. rw (y, any, ne-eqb (h n + sum n h) 0 (λ z. omega (arith, e n, weigh-yes (f n) 1 y))))
     (λ o. let z : h n + sum n h ≡ sum n h = omega (arith, e n, weigh-no (f n) 1 o) in rw (o, any, z) (any-counted n f h e))
 
-pub child-counted : (xs : List ℕ) (g : ℕ) → Kept xs → not (eqb (sumIn xs Children g) 0) ≡ hasChild (view xs) g
+pub child-counted : (t : Tree) (g : ℕ) → not (eqb (countIn t Children g) 0) ≡ hasChild t g
 unfolding hasChild children
-child-counted xs g k =
-    rw (k .sums Children g) (sym (any-counted groups (λ j. childOf g j (cores (view xs) j)) _ (λ j. refl)))
+child-counted t g = sym (any-counted groups (λ j. childOf g j (cores t j)) _ (λ j. refl))
 
 -- who is inside a group without live children stands in it
 stands-alone : (t : Tree) → WellFormed t → (g : ℕ) → lives t g ≡ true → NoChild (lives t) (parents t) g → (l : Place)
@@ -50,12 +47,10 @@ stands-alone t w g live nc (at h) at-live =
     (λ y. absurd (ne (sym (leaf-alone (w .sound) g nc h l y))))
     (λ o. rw o)))
 
-pub populated-leaf : (xs : List ℕ) (g : ℕ) → KeptAt xs g → hasChild (view xs) g ≡ false
-    → not (eqb (sumIn xs (Of Processes) g) 0) ≡ hasProcess (view xs) g
+pub populated-leaf : (t : Tree) → WellFormed t → (g : ℕ) → lives t g ≡ true → hasChild t g ≡ false
+    → not (eqb (countIn t (Of Processes) g) 0) ≡ hasProcess t g
 unfolding hasProcess population held
-populated-leaf xs g k childless =
-    let t : Tree = view xs in
-    let w : WellFormed t = k .kept .formed in
-    rw (k .kept .sums (Of Processes) g)
-    (sym (any-counted processes (λ p. standsIn (places t p) g) _
-    (λ p. stands-alone t w g (k .live) (no-child t w g childless) (places t p) (λ h e. w .placed .group p h e))))
+populated-leaf t w g live childless =
+    sym
+    (any-counted processes (λ p. standsIn (places t p) g) _
+    (λ p. stands-alone t w g live (no-child t w g childless) (places t p) (λ h e. w .placed .group p h e)))

@@ -11,6 +11,7 @@ use model::Errno;
 use model::GroupId;
 use model::Resource;
 use tree::counter::adjust;
+use tree::counter::count;
 use tree::group::clear_group;
 use tree::group::is_live;
 use tree::group::own;
@@ -20,14 +21,13 @@ use tree::layout::GROUPS;
 use tree::layout::Tree;
 use tree::rule::may_write;
 use tree::sum::Counter;
-use tree::sum::sum;
 
 // Whether a group has a live child: they are counted in its row.
 fn has_child(t: &Tree, g: GroupId) -> bool
     requires { ⌜ KeptAt (now t) (g .0) ⌝ }
     ensures { λ r. ⌜ r ≡ hasChild (view (now (t .entry))) (g .0) ⌝ }
 {
-    sum(t, g, Counter::Children) != 0
+    count(t, g, Counter::Children) != 0
 }
 
 // Whether a live process stands in a group that has no live child: whatever is inside stands in it, and is counted there.
@@ -35,7 +35,7 @@ fn is_populated(t: &Tree, g: GroupId) -> bool
     requires { ⌜ KeptAt (now t) (g .0) × (hasChild (view (now t)) (g .0) ≡ false) ⌝ }
     ensures { λ r. ⌜ r ≡ hasProcess (view (now (t .entry))) (g .0) ⌝ }
 {
-    sum(t, g, Counter::Of(Resource::Processes)) != 0
+    count(t, g, Counter::Of(Resource::Processes)) != 0
 }
 
 // 22 the number out of range; 2 not live; 13 the user may not write the parent; 16 the root, or a live child or a live process in

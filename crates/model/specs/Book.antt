@@ -14,7 +14,7 @@ use Rattle.model.specs.Hierarchy.{usage, amount, childOf}
 use Rattle.model.specs.Control.{asked, isDropped}
 use Rattle.model.specs.Settings.{mapLimit, toAmount}
 use Rattle.model.specs.Rules.{lineProcess}
-use Rattle.model.specs.Calls.{Call, make, remove, handOver, writeProcs, writeControl, writeSetting, admit, fork, exit, charge, release, read, membership, lineValue}
+use Rattle.model.specs.Calls.{Call, lineValue}
 use Rattle.model.specs.declared.Resource.{Resource}
 use Rattle.model.specs.declared.Resource.the-variants.{Pages, Processes}
 use Rattle.model.specs.declared.Limit.{Limit}
@@ -109,22 +109,22 @@ childAfter g line k c = elim (childOf g k c) [ true ↦ withEntries (limitsAfter
 
 -- an accepted call
 unfoldable pub enter : Book → Call → Book
-enter b (make user parent new) = enterGroup b new (entryUnder parent)
-enter b (remove user g) = enterRemoval b g
-enter b (handOver user g owner) = b
-enter b (writeProcs user g line) = enterPlace b (lineProcess line) (at g)
-enter b (writeControl user g line) =
+enter b (Call.make user parent new) = enterGroup b new (entryUnder parent)
+enter b (Call.remove user g) = enterRemoval b g
+enter b (Call.handOver user g owner) = b
+enter b (Call.writeProcs user g line) = enterPlace b (lineProcess line) (at g)
+enter b (Call.writeControl user g line) =
     record { machine = b .machine; group = λ k. childAfter g line k (b .group k); mark = b .mark; place = b .place }
-enter b (writeSetting user g file line) = enterValue b g (lineValue file line)
-enter b (admit p user) = enterPlace b p (at 0)
-enter b (fork p new) = enterPlace b new (b .place p)
-enter b (exit p) = enterPlace b p nowhere
-enter b (charge p n) =
+enter b (Call.writeSetting user g file line) = enterValue b g (lineValue file line)
+enter b (Call.admit p user) = enterPlace b p (at 0)
+enter b (Call.fork p new) = enterPlace b new (b .place p)
+enter b (Call.exit p) = enterPlace b p nowhere
+enter b (Call.charge p n) =
     let g : ℕ = groupOf (b .place p) in
     enterOwn b g (b .group g .own + n)
-enter b (release g n) = enterOwn b g (b .group g .own - n)
-enter b (read g file buffer) = b
-enter b (membership p buffer) = b
+enter b (Call.release g n) = enterOwn b g (b .group g .own - n)
+enter b (Call.read g file buffer) = b
+enter b (Call.membership p buffer) = b
 
 -- a call and the number that it answered: "No step: a refused call"
 unfoldable pub bookStep : Book → Call → ℕ → Book

@@ -1,7 +1,7 @@
 -- The names of controllers and files, and which name is which: document 01, "What the host keeps" and "What a reader sees".
 -- Assumes nothing.
 use Prim.Native.Nat.{ℕ}
-use mathlib.Core.List.{List, [], _∷_}
+use mathlib.Core.List.{List, [], _∷_, _++_, map}
 use mathlib.Core.Option.{Option, none, some}
 use Rattle.model.specs.Functions.{pick}
 use Rattle.model.specs.Text.{bytes, sameBytes}
@@ -32,11 +32,13 @@ settingName CpuMax = bytes "cpu.max"
 settingName (Max Pages) = bytes "memory.max"
 settingName (Max Processes) = bytes "pids.max"
 
--- the files of "What a reader sees"
+-- the files of "What a reader sees" that are no settings
+abbrev pub otherFiles : List File
+otherFiles = Procs ∷ Controllers ∷ SubtreeControl ∷ Events ∷ Current Pages ∷ Current Processes ∷ []
+
+-- all of them: no two have the same name, so their order decides nothing
 abbrev pub files : List File
-files =
-    Procs ∷ Controllers ∷ SubtreeControl ∷ Events ∷ Current Pages ∷ Current Processes
-    ∷ Value CpuWeight ∷ Value CpuMax ∷ Value (Max Pages) ∷ Value (Max Processes) ∷ []
+files = map Value settings ++ otherFiles
 
 abbrev pub fileName : File → List ℕ
 fileName Procs = bytes "cgroup.procs"

@@ -1,11 +1,38 @@
--- What a reader answers of a name, for each of `model`'s questions. Assumes nothing.
+-- What the readers of names answer: the place of a name in a list, what stands at a place, and an answer for each of `model`'s
+-- questions. Assumes nothing.
+use Prim.Native.Nat.{ℕ, zero, suc}
+use mathlib.Core.List.{List, [], _∷_}
 use mathlib.Core.Option.{Option, none, some}
+use lib.ListN.{getD}
+use Rattle.model.specs.Functions.{pick}
+use Rattle.model.specs.Text.{sameBytes}
+use Rattle.model.specs.Names.{controllers, settings, otherFiles, files}
 use Rattle.model.specs.declared.Controller.{Controller}
+use Rattle.model.specs.declared.Controller.the-variants.{Cpu}
 use Rattle.model.specs.declared.Setting.{Setting}
+use Rattle.model.specs.declared.Setting.the-variants.{CpuWeight}
 use Rattle.model.specs.declared.File.{File}
+use Rattle.model.specs.declared.File.the-variants.{Value}
 use Rattle.text.specs.declared.name.ControllerName.{ControllerName}
 use Rattle.text.specs.declared.name.SettingName.{SettingName}
-use Rattle.text.specs.declared.name.FileName.{FileName}
+
+-- the place of the first whose name it is; where there is none, the length of the list
+unfoldable pub placeNamed : {A : Type 0} → (A → List ℕ) → List ℕ → List A → ℕ
+placeNamed name w [] = zero
+placeNamed name w (a ∷ as′) = pick (sameBytes w (name a)) zero (suc (placeNamed name w as′))
+
+-- What stands at a place of each list. Nobody asks beyond its end.
+abbrev pub controllerAt : ℕ → Controller
+controllerAt i = getD controllers i Cpu
+
+abbrev pub settingAt : ℕ → Setting
+settingAt i = getD settings i CpuWeight
+
+abbrev pub otherFileAt : ℕ → File
+otherFileAt i = getD otherFiles i (Value CpuWeight)
+
+abbrev pub fileAt : ℕ → File
+fileAt i = getD files i (Value CpuWeight)
 
 abbrev pub asControllerName : Option Controller → ControllerName
 asControllerName none = ControllerName.Unknown
@@ -14,7 +41,3 @@ asControllerName (some c) = ControllerName.Of c
 abbrev pub asSettingName : Option Setting → SettingName
 asSettingName none = SettingName.Unknown
 asSettingName (some s) = SettingName.Of s
-
-abbrev pub asFileName : Option File → FileName
-asFileName none = FileName.Unknown
-asFileName (some f) = FileName.Of f

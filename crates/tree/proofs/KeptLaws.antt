@@ -18,7 +18,7 @@ use Rattle.model.proofs.ChainLaws.{inside-live, root-inside}
 use Rattle.model.proofs.AmountLaws.{own-within-usage}
 use Rattle.tree.specs.Layout.{view, sumIn}
 use Rattle.tree.specs.Counters.{listed, ChainOf, HasParent, Countable, Adjustable, Searchable}
-use Rattle.tree.specs.Kept.{children, countOf, Kept}
+use Rattle.tree.specs.Kept.{children, countIn, Kept}
 use Rattle.tree.specs.declared.chain.Chain.{Chain}
 use Rattle.tree.specs.declared.sum.Counter.{Counter}
 use Rattle.tree.specs.declared.sum.Counter.the-variants.{Of, Children}
@@ -64,7 +64,7 @@ children-few : (s : ℕ → Core) (a : ℕ) → children s a ≤ groups
 unfolding children
 children-few s a = sum-ones groups _ (λ k. weigh-le (childOf a k (s k)) 1)
 
-count-small : (t : Tree) → WellFormed t → (c : Counter) (a : ℕ) → countOf (cores t) (places t) c a ≤ largestMachine
+pub count-small : (t : Tree) → WellFormed t → (c : Counter) (a : ℕ) → countIn t c a ≤ largestMachine
 count-small t w (Of r) a = amount-small t w r a
 count-small t w Children a = omega (arith, children-few (cores t) a)
 
@@ -117,7 +117,7 @@ module _ (xs : List ℕ) (k : Kept xs) where
         }
 
   pub adjustable : (g : ℕ) → lives (view xs) g ≡ true → (c : Counter) (n m : ℕ) → n ≤ 1048576
-      → ((a : ℕ) → inside (parents (view xs)) a g ≡ true → m ≤ countOf (cores (view xs)) (places (view xs)) c a)
+      → ((a : ℕ) → inside (parents (view xs)) a g ≡ true → m ≤ countIn (view xs) c a)
       → Adjustable xs c g n m
   adjustable g l c n m few enough =
       let s = k .formed .sound in
@@ -129,7 +129,7 @@ module _ (xs : List ℕ) (k : Kept xs) where
         enough = λ a i. omega (arith, enough a i, k .sums c a);
       }
 
-  pub countable : (g : ℕ) → lives (view xs) g ≡ true → (c : Counter) (n m : ℕ) → n ≤ 1048576 → m ≤ countOf (cores (view xs)) (places (view xs)) c g
+  pub countable : (g : ℕ) → lives (view xs) g ≡ true → (c : Counter) (n m : ℕ) → n ≤ 1048576 → m ≤ countIn (view xs) c g
       → Countable xs c g n m
   countable g l c n m few enough =
       record {

@@ -17,7 +17,7 @@ use Rattle.model.specs.declared.Limit.the-variants.{NoLimit, Figure}
 use Rattle.model.specs.declared.Controller.the-variants.{Cpu, Memory, Pids}
 use Rattle.model.proofs.FunctionLaws.{split, whether}
 use Rattle.tree.specs.Layout.{front, machineAt, rowWords, treeWords, word, sumField, sumIn, firstFlag, liveField, setField, firstWord, used, limitIn, placeIn, flagIn, groupRow, processIn, view, SpareRow}
-use Rattle.tree.specs.Kept.{countOf, Kept}
+use Rattle.tree.specs.Kept.{countIn, Kept}
 use Rattle.tree.specs.OneForm.{OneForm}
 use Rattle.tree.specs.declared.sum.Counter.{Counter}
 use Rattle.tree.specs.declared.sum.Counter.the-variants.{Of, Children}
@@ -115,7 +115,7 @@ module _ (v w : ℕ → ℕ) (a : SpareRow v) (b : SpareRow w) (sums : (c : Coun
 
 module _ (xs ys : List ℕ) (k : Kept xs) (j : Kept ys) (e : view xs ≡ view ys) where
   sums-same : (g : ℕ) (c : Counter) → sumIn xs c g ≡ sumIn ys c g
-  sums-same g c = k .sums c g ∙ ap (λ (t : Tree). countOf (cores t) (places t) c g) e ∙ sym (j .sums c g)
+  sums-same g c = k .sums c g ∙ ap (λ (t : Tree). countIn t c g) e ∙ sym (j .sums c g)
 
   words-same : (g i : ℕ) → g < groups → i < rowWords → word xs g i ≡ word ys g i
   words-same g i low l =

@@ -24,9 +24,12 @@ abbrev pub countOf : (ℕ → Core) → (ℕ → Place) → Counter → ℕ → 
 countOf cs ps (Of r) = amount cs ps r
 countOf cs ps Children = children cs
 
+abbrev pub countIn : Tree → Counter → ℕ → ℕ
+countIn t = countOf (cores t) (places t)
+
 -- every running sum is what its counter counts, and 0 for a number that is not live
 abbrev pub Summed : List ℕ → Tree → Type 0
-Summed xs t = (c : Counter) (g : ℕ) → sumIn xs c g ≡ countOf (cores t) (places t) c g
+Summed xs t = (c : Counter) (g : ℕ) → sumIn xs c g ≡ countIn t c g
 
 -- the words stand for t, with every sum and no other word
 pub record Settled (xs : List ℕ) (t : Tree) : Type 0 where

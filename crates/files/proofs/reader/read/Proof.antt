@@ -3,13 +3,18 @@ use Prim.Native.Nat.{ℕ, _<_}
 use native.Mathlib.Omega.{arith}
 use mathlib.Core.Bool.{true}
 use mathlib.Core.List.{List}
-use mathlib.Core.Path.{_≡_, sym, _∙_}
+use mathlib.Core.Option.{some}
+use mathlib.Core.Path.{_≡_, ap, sym, _∙_}
 use borrow.Author.Tests.{not-true, not-false}
 use borrow.Author.Needs.{needs}
 use Rattle.model.specs.Sizes.{groups}
 use Rattle.model.specs.Tree.{lives}
+use Rattle.model.specs.Names.{fileName, files, fileNamed}
 use Rattle.model.specs.Calls.{read}
 use Rattle.model.specs.declared.ReadAnswer.{ReadAnswer}
+use Rattle.model.specs.declared.Setting.the-variants.{CpuWeight}
+use Rattle.model.specs.declared.File.the-variants.{Value}
+use Rattle.text.proofs.NameLaws.{named-at, named-none}
 use Rattle.tree.specs.Layout.{view}
 use Rattle.tree.specs.Calling.{Delivering}
 use Rattle.files.specs.Texts.{DeliversFile}
@@ -28,6 +33,13 @@ live : (c : tie.Else2)
     ≡ true
 live c = sym (c .before .is-live .ensures) ∙ not-false _ (c .if2 .left)
 
+-- what the name names, where it is a file's
+found : (c : tie.After-file-at)
+    → fileNamed (c .before .before .before .before .before .before .before .before .before .args .file .now) ≡ some (c .file-at .result)
+found c =
+    let p = c .before .before in
+    named-at fileName _ files (p .file-place .ensures) (Value CpuWeight) (omega arith) ∙ ap some (sym (c .file-at .ensures))
+
 -- a number out of range
 returns : tie.Need-returns
 returns c =
@@ -45,40 +57,35 @@ returns-2 c =
     read-dead (a .tree .now) (a .group .0) (a .file .now) (a .reply .now) (low l)
     (sym (l .is-live .ensures) ∙ not-true _ (c .if2 .taken))
 
-file-named-requires : tie.Need-file-named-requires
-file-named-requires c κs = search needs
-
-enum-known-named : tie.Need-enum-known-named
-enum-known-named c = search needs
-
-enum-told : tie.Need-enum-told
-enum-told c = search needs
+file-place-requires : tie.Need-file-place-requires
+file-place-requires c κs = search needs
 
 -- no such file
 returns-3 : tie.Need-returns-3
 returns-3 c =
-    let f = c .before .before in
-    let i = f .before in
+    let p = c .before in
+    let i = p .before in
     let a = i .before .before .before .before .before .before .args in
     read-unknown (a .tree .now) (a .group .0) (a .file .now) (a .reply .now) (low (i .before)) (live i)
-    (sym (c .enum-told .given .1) ∙ f .file-named .ensures)
+    (named-none fileName _ files (p .file-place .ensures) (omega arith))
+
+file-at-requires : tie.Need-file-at-requires
+file-at-requires c κs = search needs
 
 is-present-requires : tie.Need-is-present-requires
 is-present-requires c κs =
-    let i = c .before .before .before .before in
+    let i = c .before .before .before in
     live-row _ (i .before .before .before .before .before .before .pre) _ (live i)
 
 -- absent there
 returns-4 : tie.Need-returns-4
 returns-4 c =
     let h = c .before in
-    let n = h .before .before in
-    let f = n .before .before in
-    let i = f .before in
+    let f = h .before in
+    let i = f .before .before .before in
     let a = i .before .before .before .before .before .before .args in
-    read-not-present (a .tree .now) (a .group .0) (a .file .now) (a .reply .now) (low (i .before)) (live i) _
-    (sym (n .named .given .1) ∙ f .file-named .ensures)
-    (sym (h .is-present .ensures) ∙ not-true _ (c .if3 .taken))
+    read-not-present (a .tree .now) (a .group .0) (a .file .now) (a .reply .now) (low (i .before)) (live i) _ (found f)
+    (sym (h .is-present .ensures) ∙ not-true _ (c .if4 .taken))
 
 is-listing-requires : tie.Need-is-listing-requires
 is-listing-requires c κs = search needs
@@ -90,19 +97,18 @@ same-length : tie.Need-same-length
 same-length c = search needs
 
 -- the file that was found is there, and is delivered
-delivered : (j : tie.Else3) {r : ReadAnswer} {new : List ℕ} →
-    let a = j .before .before .before .before .before .before .before .before .before .before .before .before .args in
-    DeliversFile (a .tree .now) (a .group .0) (j .before .before .before .named .given .0 .0) (a .reply .now) r new
+delivered : (j : tie.Else4) {r : ReadAnswer} {new : List ℕ} →
+    let f = j .before .before in
+    let a = f .before .before .before .before .before .before .before .before .before .args in
+    DeliversFile (a .tree .now) (a .group .0) (f .file-at .result) (a .reply .now) r new
     → Delivering (a .tree .now) (read (a .group .0) (a .file .now) (a .reply .now)) r new
 delivered j d =
     let h = j .before in
-    let n = h .before .before in
-    let f = n .before .before in
-    let i = f .before in
+    let f = h .before in
+    let i = f .before .before .before in
     let a = i .before .before .before .before .before .before .args in
-    read-delivered (a .tree .now) (a .group .0) (a .file .now) (a .reply .now) (low (i .before)) (live i) _
-    (sym (n .named .given .1) ∙ f .file-named .ensures)
-    (sym (h .is-present .ensures) ∙ not-false _ (j .if3 .left)) d
+    read-delivered (a .tree .now) (a .group .0) (a .file .now) (a .reply .now) (low (i .before)) (live i) _ (found f)
+    (sym (h .is-present .ensures) ∙ not-false _ (j .if4 .left)) d
 
 returns-5 : tie.Need-returns-5
 returns-5 c =
@@ -110,16 +116,17 @@ returns-5 c =
     let y = w .before .before in
     let l = y .before in
     let j = l .before in
-    let a = j .before .before .before .before .before .before .before .before .before .before .before .before .args in
+    let f = j .before .before in
+    let a = f .before .before .before .before .before .before .before .before .before .args in
     delivered j
-    (delivers-procs (a .tree .now) (a .group .0) (j .before .before .before .named .given .0 .0) (sym (l .is-listing .ensures) ∙ y .if4 .taken) (w .read-procs .ensures))
+    (delivers-procs (a .tree .now) (a .group .0) (f .file-at .result) (sym (l .is-listing .ensures) ∙ y .if5 .taken) (w .read-procs .ensures))
 
 read-other-requires : tie.Need-read-other-requires
 read-other-requires c κs =
     let y = c .before in
     let l = y .before in
-    let i = l .before .before .before .before .before .before .before in
-    (record { kept = i .before .before .before .before .before .before .pre; live = live i }, sym (l .is-listing .ensures) ∙ y .if4 .left)
+    let i = l .before .before .before .before .before .before in
+    (record { kept = i .before .before .before .before .before .before .pre; live = live i }, sym (l .is-listing .ensures) ∙ y .if5 .left)
 
 same-length-2 : tie.Need-same-length-2
 same-length-2 c = search needs
@@ -134,10 +141,9 @@ read-spec =
     returns
     is-live-requires
     returns-2
-    file-named-requires
-    enum-known-named
-    enum-told
+    file-place-requires
     returns-3
+    file-at-requires
     is-present-requires
     returns-4
     is-listing-requires

@@ -1,4 +1,4 @@
--- `files::value::put_current` meets its contract: the running sum is what the definitions count. Assumes nothing.
+-- `files::value::put_current` meets its contract. Assumes nothing.
 use native.Mathlib.Omega.{arith}
 use borrow.Author.Needs.{needs}
 use Rattle.text.proofs.WriteLaws.{wrote-as}
@@ -6,13 +6,13 @@ use Rattle.files.proofs.ValueTextLaws.{figure-fits, length-figure, curr
 use Rattle.files.proofs.value.put_current.Statement.{statement}
 use Rattle.files.proofs.value.put_current.Tie as tie
 
-sum-requires : tie.Need-sum-requires
-sum-requires c κs = let r = c .before .pre .group in r .kept .formed .sound .range _ (r .live)
+count-requires : tie.Need-count-requires
+count-requires c κs = search needs
 
 to-figure-requires : tie.Need-to-figure-requires
 to-figure-requires c κs =
     let s = c .before .before in
-    figure-fits _ _ (s .pre .group) (s .args .s) _ (c .sum .ensures)
+    figure-fits _ (s .pre .group .kept .formed) _ (s .args .s) _ (c .count .ensures)
 
 put-line-requires : tie.Need-put-line-requires
 put-line-requires c κs =
@@ -21,7 +21,7 @@ put-line-requires c κs =
     let s = u .before .before in
     omega (
       arith,
-      length-figure _ _ (s .pre .group) (s .args .s) _ _ (u .sum .ensures) (f .to-figure .ensures),
+      length-figure _ (s .pre .group .kept .formed) _ (s .args .s) _ _ (u .count .ensures) (f .to-figure .ensures),
       s .pre .room,
     )
 
@@ -35,9 +35,9 @@ returns c =
     let u = f .before in
     let s = u .before .before in
     wrote-as
-    (current-text _ _ (s .pre .group) (s .args .s) _ _ (u .sum .ensures) (f .to-figure .ensures))
+    (current-text _ _ (s .args .s) _ _ (u .count .ensures) (f .to-figure .ensures))
     (w .put-line .ensures)
 
 pub put-current-spec : {M : Type 1} → statement M
 put-current-spec =
-    tie.close (tie.spec sum-requires to-figure-requires put-line-requires same-length returns)
+    tie.close (tie.spec count-requires to-figure-requires put-line-requires same-length returns)

@@ -1,12 +1,12 @@
--- `files::value::put_events` meets its contract: the running sum is what the definitions count. Assumes nothing.
+-- `files::value::put_events` meets its contract. Assumes nothing.
 use borrow.Author.Needs.{needs}
 use Rattle.text.proofs.WriteLaws.{wrote-as}
 use Rattle.files.proofs.ValueTextLaws.{events-none, events-some}
 use Rattle.files.proofs.value.put_events.Statement.{statement}
 use Rattle.files.proofs.value.put_events.Tie as tie
 
-sum-requires : tie.Need-sum-requires
-sum-requires c κs = let r = c .before .pre .group in r .kept .formed .sound .range _ (r .live)
+count-requires : tie.Need-count-requires
+count-requires c κs = search needs
 
 slice-aggregate-put-text : tie.Need-slice-aggregate-put-text
 slice-aggregate-put-text c = search needs
@@ -22,8 +22,7 @@ returns : tie.Need-returns
 returns c =
     let w = c .before .before in
     let i = w .before .before .before in
-    let s = i .before .before .before in
-    wrote-as (events-none _ _ (s .pre .group) _ (i .before .sum .ensures) (i .if1 .taken)) (w .put-text .ensures)
+    wrote-as (events-none _ _ _ (i .before .count .ensures) (i .if1 .taken)) (w .put-text .ensures)
 
 slice-aggregate-put-text-2 : tie.Need-slice-aggregate-put-text-2
 slice-aggregate-put-text-2 c = search needs
@@ -39,14 +38,13 @@ returns-2 : tie.Need-returns-2
 returns-2 c =
     let w = c .before .before in
     let i = w .before .before .before in
-    let s = i .before .before .before in
-    wrote-as (events-some _ _ (s .pre .group) _ (i .before .sum .ensures) (i .if1 .left)) (w .put-text2 .ensures)
+    wrote-as (events-some _ _ _ (i .before .count .ensures) (i .if1 .left)) (w .put-text2 .ensures)
 
 pub put-events-spec : {M : Type 1} → statement M
 put-events-spec =
     tie.close
     (tie.spec
-    sum-requires
+    count-requires
     slice-aggregate-put-text
     put-text-requires
     same-length

@@ -3,15 +3,16 @@ use Prim.Native.Nat.{ℕ}
 use mathlib.Core.Bool.{not}
 use mathlib.Core.Path.{ap, _∙_}
 use lib.Dec.{eqb}
+use borrow.Author.Needs.{needs}
 use Rattle.groups.proofs.LeafLaws.{child-counted}
 use Rattle.groups.proofs.remove.has_child.Statement.{statement}
 use Rattle.groups.proofs.remove.has_child.Tie as tie
 
-sum-requires : tie.Need-sum-requires
-sum-requires c κs = c .pre .kept .formed .sound .range _ (c .pre .live)
+count-requires : tie.Need-count-requires
+count-requires c κs = search needs
 
 returns : tie.Need-returns
-returns c = ap (λ (n : ℕ). not (eqb n 0)) (c .sum .ensures) ∙ child-counted _ _ (c .before .pre .kept)
+returns c = ap (λ (n : ℕ). not (eqb n 0)) (c .count .ensures) ∙ child-counted _ _
 
 pub has-child-spec : {M : Type 1} → statement M
-has-child-spec = tie.close (tie.spec sum-requires returns)
+has-child-spec = tie.close (tie.spec count-requires returns)

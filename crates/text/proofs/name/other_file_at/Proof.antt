@@ -1,0 +1,27 @@
+-- `text::name::other_file_at` meets its contract. Assumes nothing.
+use native.Mathlib.Omega.{arith}
+use mathlib.Core.Path.{_≡_}
+use borrow.Author.Needs.{needs}
+use Rattle.text.proofs.name.other_file_at.Statement.{statement}
+use Rattle.text.proofs.name.other_file_at.Tie as tie
+
+returns : tie.Need-returns
+returns c = search needs
+
+returns-2 : tie.Need-returns-2
+returns-2 c = search needs
+
+returns-3 : tie.Need-returns-3
+returns-3 c = search needs
+
+returns-4 : tie.Need-returns-4
+returns-4 c = search needs
+
+returns-5 : tie.Need-returns-5
+returns-5 c = let e : c .before .args .i ≡ 4 = omega arith in rw e
+
+returns-6 : tie.Need-returns-6
+returns-6 c = let e : c .before .args .i ≡ 5 = omega arith in rw e
+
+pub other-file-at-spec : {M : Type 1} → statement M
+other-file-at-spec = tie.close (tie.spec returns returns-2 returns-3 returns-4 returns-5 returns-6)
