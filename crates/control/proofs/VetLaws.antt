@@ -13,7 +13,6 @@ use Rattle.model.specs.Settings.{settingController}
 use Rattle.model.specs.declared.Setting.{Setting}
 use Rattle.model.specs.declared.Controller.{Controller}
 use Rattle.model.specs.declared.Errno.{Errno}
-use Rattle.model.specs.declared.Answer.{Answer}
 use Rattle.model.specs.declared.Answer.the-variants.{Done, Refused}
 
 -- of the checks `all` those before `rest` pass

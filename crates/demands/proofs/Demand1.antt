@@ -2,7 +2,6 @@
 use Prim.Native.Nat.{ℕ}
 use mathlib.Core.List.{List}
 use mathlib.Core.Logic.{_≢_}
-use mathlib.Core.Path.{_≡_}
 use Rattle.model.specs.Calls.{Call}
 use Rattle.tree.specs.Calling.{Answered}
 use Rattle.tree.proofs.AnsweredLaws.{answered-refused, refused-words}

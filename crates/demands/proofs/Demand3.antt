@@ -27,7 +27,7 @@ use Rattle.model.proofs.NameLaws.{fileNamed-fileName}
 use Rattle.model.proofs.Demands.{demands}
 use Rattle.tree.specs.Layout.{view}
 use Rattle.tree.specs.Kept.{Fresh}
-use Rattle.demands.specs.Runs.{Runs, callsOf, Followed}
+use Rattle.demands.specs.Runs.{callsOf, Followed}
 use Rattle.demands.specs.Texts.{Delivered}
 use Rattle.demands.specs.Demand3.{Kept3, Demand3}
 use Rattle.demands.proofs.Runs.{log-more, followed}

@@ -5,8 +5,11 @@ use native.Mathlib.Omega.{arith}
 use mathlib.Core.Bool.{Bool, true, false}
 use mathlib.Core.List.{List, [], _∷_}
 use mathlib.Core.Option.{Option, none, some}
+use mathlib.Core.Logic.{_≢_}
 use mathlib.Core.Path.{_≡_, refl, ap, sym, _∙_, subst}
 use lib.ListN.{take}
+use types.Run.{OneOf, miss}
+use denote.Enum.Declared.{tagOf}
 use borrow.Author.Tests.{le-leb, lt-leb}
 use Rattle.model.specs.Functions.{pick, passes, mapped, orElse}
 use Rattle.model.specs.Sizes.{groups, processes}
@@ -22,14 +25,15 @@ use Rattle.model.specs.declared.Errno.the-variants.{Einval, Enoent, Esrch, Enos
 use Rattle.model.specs.declared.Answer.the-variants.{Done, Refused}
 use Rattle.model.specs.declared.ReadAnswer.{ReadAnswer}
 use Rattle.model.specs.declared.File.{File}
-use Rattle.model.proofs.FunctionLaws.{split, clash}
+use Rattle.model.proofs.File.{the-type}
+use Rattle.model.proofs.FunctionLaws.{split}
 use Rattle.model.proofs.CheckLaws.{says-first, first-says}
 use Rattle.model.proofs.AmountLaws.{place-live}
 use Rattle.text.specs.Write.{Appended, Delivered, delivery}
 use Rattle.tree.specs.Layout.{view}
 use Rattle.tree.specs.Kept.{Kept}
 use Rattle.tree.specs.Calling.{Delivering}
-use Rattle.files.specs.Texts.{isListing, DeliversFile}
+use Rattle.files.specs.Texts.{DeliversFile}
 
 module _ (xs : List ℕ) (c : Call) where
   reading-refused : (e : Errno) → verdict (view xs) c ≡ Refused e → Delivering xs c (ReadAnswer.Refused e) (bufferOf c)
@@ -54,18 +58,15 @@ last-check text old = go (fits text old)
 pub delivered-text : {a b text old new : List ℕ} {k : ℕ} {r : ReadAnswer} → Appended a 0 text b k → Delivered (take k b) old r new → Delivered text old r new
 delivered-text w d = rw (w .front) at d
 
--- the listing is cgroup.procs
-is-procs : (f : File) → isListing f ≡ true → File.Procs ≡ f
-is-procs File.Procs e = refl
-is-procs File.Controllers e = clash false e refl
-is-procs File.SubtreeControl e = clash false e refl
-is-procs File.Events e = clash false e refl
-is-procs (File.Current r) e = clash false e refl
-is-procs (File.Value s) e = clash false e refl
+-- ---- cgroup.procs and the other files
 
-pub delivers-procs : (xs : List ℕ) (g : ℕ) (f : File) {old new : List ℕ} {r : ReadAnswer} → isListing f ≡ true
+pub delivers-procs : (xs : List ℕ) (g : ℕ) (f : File) {old new : List ℕ} {r : ReadAnswer} → f ≡ File.Procs
     → DeliversFile xs g File.Procs old r new → DeliversFile xs g f old r new
-delivers-procs xs g f {old} {new} {r} e d = subst (λ (x : File). DeliversFile xs g x old r new) (is-procs f e) d
+delivers-procs xs g f {old} {new} {r} e d = subst (λ (x : File). DeliversFile xs g x old r new) (sym e) d
+
+-- by the numbers of the variants
+pub not-procs : (f : File) → OneOf (1 ∷ 2 ∷ 3 ∷ 4 ∷ 5 ∷ []) (tagOf the-type f) → f ≢ File.Procs
+not-procs f k e = miss (1 ∷ 2 ∷ 3 ∷ 4 ∷ 5 ∷ []) 0 tt (subst (λ (x : File). OneOf (1 ∷ 2 ∷ 3 ∷ 4 ∷ 5 ∷ []) (tagOf the-type x)) e k)
 
 -- ---- read
 

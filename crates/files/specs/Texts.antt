@@ -1,6 +1,6 @@
 -- What the writers of a text's parts ask and write: document 01, "What a reader sees". Assumes nothing.
 use Prim.Native.Nat.{ℕ, _+_, _*_, _≤_}
-use mathlib.Core.Bool.{Bool, true, false}
+use mathlib.Core.Bool.{Bool, true}
 use mathlib.Core.List.{List, [], _∷_}
 use mathlib.Core.Path.{_≡_}
 use lib.Dec.{eqb}
@@ -27,15 +27,6 @@ longestOther = 128
 -- no path is longer: two digits and a "/" for each group on it
 abbrev pub longestPath : ℕ
 longestPath = deepest * 3
-
--- the one file that can be long
-abbrev pub isListing : File → Bool
-isListing File.Procs = true
-isListing File.Controllers = false
-isListing File.SubtreeControl = false
-isListing File.Events = false
-isListing (File.Current r) = false
-isListing (File.Value s) = false
 
 -- a live group, and room for any of its files but cgroup.procs
 pub record Ready (xs : List ℕ) (g : ℕ) (out : List ℕ) : Type 0 where

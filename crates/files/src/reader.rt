@@ -1,13 +1,13 @@
 // The two calls that deliver a text: a file of a group, and the membership line of a process. Anyone may read.
 ghost use mathlib.Core.Path.{_≡_};
-ghost use mathlib.Core.Bool.{false};
+ghost use mathlib.Core.Logic.{_≢_};
 ghost use Rattle.model.specs.Files.{isPresent};
 ghost use Rattle.model.specs.Calls.{read, membership};
 ghost use Rattle.tree.specs.Layout.{view};
 ghost use Rattle.tree.specs.Counters.{HasParent};
 ghost use Rattle.tree.specs.Kept.{Kept, KeptAt};
 ghost use Rattle.tree.specs.Calling.{Delivering};
-ghost use Rattle.files.specs.Texts.{isListing, Ready, Renders, DeliversFile};
+ghost use Rattle.files.specs.Texts.{Ready, Renders, DeliversFile};
 use super::list::put_controllers;
 use super::list::put_procs;
 use super::list::put_subtree_control;
@@ -60,7 +60,7 @@ fn is_present(t: &Tree, g: GroupId, file: File) -> bool
 
 // The text of a file other than cgroup.procs.
 fn render(t: &Tree, g: GroupId, file: File, out: &mut [u8]) -> usize
-    requires { ⌜ Ready (now t) (g .0) (now out) × (isListing file ≡ false) ⌝ }
+    requires { ⌜ Ready (now t) (g .0) (now out) × (file ≢ File.Procs) ⌝ }
     ensures { λ r. ⌜ Renders (now (t .entry)) (g .0) file (now (out .entry)) (now (out .exit)) r ⌝ }
 {
     match file {
@@ -73,20 +73,6 @@ fn render(t: &Tree, g: GroupId, file: File, out: &mut [u8]) -> usize
     }
 }
 
-// Whether it is the one file that can be long.
-fn is_listing(file: File) -> bool
-    ensures { λ r. ⌜ r ≡ isListing file ⌝ }
-{
-    match file {
-        File::Procs => true,
-        File::Controllers => false,
-        File::SubtreeControl => false,
-        File::Events => false,
-        File::Current(_) => false,
-        File::Value(_) => false,
-    }
-}
-
 fn read_procs(t: &Tree, g: GroupId, reply: &mut [u8]) -> ReadAnswer
     ensures { λ r. ⌜ DeliversFile (now (t .entry)) (g .0) File.Procs (now (reply .entry)) r (now (reply .exit)) ⌝ }
 {
@@ -96,7 +82,7 @@ fn read_procs(t: &Tree, g: GroupId, reply: &mut [u8]) -> ReadAnswer
 }
 
 fn read_other(t: &Tree, g: GroupId, file: File, reply: &mut [u8]) -> ReadAnswer
-    requires { ⌜ KeptAt (now t) (g .0) × (isListing file ≡ false) ⌝ }
+    requires { ⌜ KeptAt (now t) (g .0) × (file ≢ File.Procs) ⌝ }
     ensures { λ r. ⌜ DeliversFile (now (t .entry)) (g .0) file (now (reply .entry)) r (now (reply .exit)) ⌝ }
 {
     let mut scratch = [0u8; LONGEST_OTHER];
@@ -124,7 +110,7 @@ pub fn read(tree: &Tree, group: GroupId, file: &[u8], reply: &mut [u8]) -> ReadA
     if !is_present(tree, group, found) {
         return ReadAnswer::Refused(Errno::Enoent);
     }
-    if is_listing(found) {
+    if let File::Procs = found {
         return read_procs(tree, group, reply);
     }
     read_other(tree, group, found, reply)

@@ -1,9 +1,8 @@
 -- Laws of the names of controllers, settings and files: each name finds what it names, by computation, and what is found has
 -- the name. Assumes nothing.
 use Prim.Native.Nat.{ℕ}
-use mathlib.Core.Bool.{true, false}
 use mathlib.Core.List.{List, [], _∷_}
-use mathlib.Core.Option.{Option, none, some}
+use mathlib.Core.Option.{some}
 use mathlib.Core.Path.{_≡_, refl, ap, _∙_}
 use native.Mathlib.Omega.{arith}
 use Rattle.model.specs.Text.{sameBytes}

@@ -1,5 +1,4 @@
 // Texts read into a reply buffer of the caller's.
-ghost use mathlib.Core.Path.{_≡_};
 ghost use Rattle.model.specs.Calls.{read, membership};
 ghost use Rattle.model.specs.Replies.{reply as replyOf};
 ghost use Rattle.tree.specs.Layout.{view};

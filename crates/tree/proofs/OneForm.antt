@@ -11,7 +11,7 @@ use lib.ListN.{getD}
 use lib.Seq.{ext-getD}
 use borrow.Author.Tests.{eqb-true, eqb-false}
 use Rattle.model.specs.Sizes.{groups, processes}
-use Rattle.model.specs.Tree.{Tree, Group, Process, nowhere, at, cores, places}
+use Rattle.model.specs.Tree.{Tree, Group, Process, nowhere, at}
 use Rattle.model.specs.declared.Resource.the-variants.{Pages, Processes}
 use Rattle.model.specs.declared.Limit.the-variants.{NoLimit, Figure}
 use Rattle.model.specs.declared.Controller.the-variants.{Cpu, Memory, Pids}

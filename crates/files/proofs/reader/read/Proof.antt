@@ -19,7 +19,7 @@ use Rattle.tree.specs.Layout.{view}
 use Rattle.tree.specs.Calling.{Delivering}
 use Rattle.files.specs.Texts.{DeliversFile}
 use Rattle.tree.proofs.KeptLaws.{live-row}
-use Rattle.files.proofs.DeliveryLaws.{read-no-number, read-dead, read-unknown, read-not-present, read-delivered, delivers-procs}
+use Rattle.files.proofs.DeliveryLaws.{read-no-number, read-dead, read-unknown, read-not-present, read-delivered, delivers-procs, not-procs}
 use Rattle.files.proofs.reader.read.Statement.{statement}
 use Rattle.files.proofs.reader.read.Tie as tie
 
@@ -87,8 +87,8 @@ returns-4 c =
     read-not-present (a .tree .now) (a .group .0) (a .file .now) (a .reply .now) (low (i .before)) (live i) _ (found f)
     (sym (h .is-present .ensures) ∙ not-true _ (c .if4 .taken))
 
-is-listing-requires : tie.Need-is-listing-requires
-is-listing-requires c κs = search needs
+enum-told : tie.Need-enum-told
+enum-told c = search needs
 
 read-procs-requires : tie.Need-read-procs-requires
 read-procs-requires c κs = search needs
@@ -110,29 +110,29 @@ delivered j d =
     read-delivered (a .tree .now) (a .group .0) (a .file .now) (a .reply .now) (low (i .before)) (live i) _ (found f)
     (sym (h .is-present .ensures) ∙ not-false _ (j .if4 .left)) d
 
+-- cgroup.procs
 returns-5 : tie.Need-returns-5
 returns-5 c =
     let w = c .before .before in
-    let y = w .before .before in
-    let l = y .before in
-    let j = l .before in
+    let m = w .before .before in
+    let j = m .before .before in
     let f = j .before .before in
     let a = f .before .before .before .before .before .before .before .before .before .args in
     delivered j
-    (delivers-procs (a .tree .now) (a .group .0) (f .file-at .result) (sym (l .is-listing .ensures) ∙ y .if5 .taken) (w .read-procs .ensures))
+    (delivers-procs (a .tree .now) (a .group .0) (f .file-at .result) (m .enum-told .given .1) (w .read-procs .ensures))
 
 read-other-requires : tie.Need-read-other-requires
 read-other-requires c κs =
     let y = c .before in
-    let l = y .before in
-    let i = l .before .before .before .before .before .before in
-    (record { kept = i .before .before .before .before .before .before .pre; live = live i }, sym (l .is-listing .ensures) ∙ y .if5 .left)
+    let i = y .before .before .before .before .before .before in
+    (record { kept = i .before .before .before .before .before .before .pre; live = live i }, not-procs _ (y .match .keys2))
 
 same-length-2 : tie.Need-same-length-2
 same-length-2 c = search needs
 
+-- another file
 returns-6 : tie.Need-returns-6
-returns-6 c = let w = c .before .before in delivered (w .before .before .before .before) (w .read-other .ensures)
+returns-6 c = let w = c .before .before in delivered (w .before .before .before) (w .read-other .ensures)
 
 pub read-spec : {M : Type 1} → statement M
 read-spec =
@@ -146,7 +146,7 @@ read-spec =
     file-at-requires
     is-present-requires
     returns-4
-    is-listing-requires
+    enum-told
     read-procs-requires
     same-length
     returns-5

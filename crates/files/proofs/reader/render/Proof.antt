@@ -1,13 +1,11 @@
 -- `files::reader::render` meets its contract: each arm writes the file that it matches. Assumes nothing.
-use mathlib.Core.Path.{_≡_, refl, ap, sym, _∙_}
+use mathlib.Core.Path.{_≡_, ap, sym}
 use borrow.Author.Needs.{needs}
 use Rattle.model.specs.Hierarchy.{factsOf}
 use Rattle.model.specs.Files.{contents}
 use Rattle.model.specs.declared.File.{File}
-use Rattle.model.proofs.FunctionLaws.{clash}
 use Rattle.text.proofs.WriteLaws.{wrote-as}
 use Rattle.tree.specs.Layout.{view}
-use Rattle.files.specs.Texts.{isListing}
 use Rattle.files.proofs.reader.render.Statement.{statement}
 use Rattle.files.proofs.reader.render.Tie as tie
 
@@ -51,7 +49,7 @@ put-setting-requires : tie.Need-put-setting-requires
 put-setting-requires c κs = search needs
 
 returns : tie.Need-returns
-returns c = clash (isListing File.Procs) refl (ap isListing (sym (c .enum-told .given .1)) ∙ c .before .before .before .pre .1)
+returns c = absurd (c .before .before .before .pre .1 (c .enum-told .given .1))
 
 same-length : tie.Need-same-length
 same-length c = search needs
