@@ -29,7 +29,7 @@ use Rattle.model.proofs.File.{the-type}
 use Rattle.model.proofs.FunctionLaws.{split}
 use Rattle.model.proofs.CheckLaws.{says-first, first-says}
 use Rattle.model.proofs.AmountLaws.{place-live}
-use Rattle.text.specs.Write.{Appended, Delivered, delivery}
+use Rattle.text.specs.Write.{Appended, Delivers, delivery}
 use Rattle.tree.specs.Layout.{view}
 use Rattle.tree.specs.Kept.{Kept}
 use Rattle.tree.specs.Calling.{Delivering}
@@ -40,9 +40,9 @@ module _ (xs : List ℕ) (c : Call) where
   reading-refused e v = record { answer = rw v; buffer = rw v }
 
   reading-delivered : verdict (view xs) c ≡ delivery (textOf (factsOf (view xs)) c) (bufferOf c) → {part new : List ℕ} {r : ReadAnswer}
-      → part ≡ textOf (factsOf (view xs)) c → Delivered part (bufferOf c) r new → Delivering xs c r new
+      → part ≡ textOf (factsOf (view xs)) c → Delivers part (bufferOf c) r new → Delivering xs c r new
   reading-delivered v {part} {new} {r} p d =
-      let w : Delivered (textOf (factsOf (view xs)) c) (bufferOf c) r new = rw p at d in
+      let w : Delivers (textOf (factsOf (view xs)) c) (bufferOf c) r new = rw p at d in
       record { answer = rw v (w .answer); buffer = rw v (w .buffer) }
 
 -- the last check of both calls is the delivery's
@@ -55,7 +55,7 @@ last-check text old = go (fits text old)
     go false = refl
 
 -- a text that was made at the front of an array, and delivered from there
-pub delivered-text : {a b text old new : List ℕ} {k : ℕ} {r : ReadAnswer} → Appended a 0 text b k → Delivered (take k b) old r new → Delivered text old r new
+pub delivered-text : {a b text old new : List ℕ} {k : ℕ} {r : ReadAnswer} → Appended a 0 text b k → Delivers (take k b) old r new → Delivers text old r new
 delivered-text w d = rw (w .front) at d
 
 -- ---- cgroup.procs and the other files
@@ -133,7 +133,7 @@ module _ (xs : List ℕ) (p : ℕ) (old : List ℕ) where
 
   pub membership-delivered : isLive (places (view xs) p) ≡ true → {a b : List ℕ} {k : ℕ}
       → Appended a 0 (membershipLine (view xs) p) b k → {r : ReadAnswer} {new : List ℕ}
-      → Delivered (take k b) old r new → Membership r new
+      → Delivers (take k b) old r new → Membership r new
   unfolding verdict checks
   membership-delivered l w d =
       reading-delivered xs (membership p old)

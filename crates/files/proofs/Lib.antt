@@ -1,4 +1,3 @@
-pub mod WrittenLaws
 pub mod PathLaws
 pub mod NameLineLaws
 pub mod ListingLaws

@@ -14,8 +14,8 @@ use Rattle.model.specs.Rules.{standsIn}
 use Rattle.model.specs.Files.{processLines}
 use Rattle.model.proofs.DecimalLaws.{length-decimal}
 use Rattle.text.specs.Write.{Appended}
+use Rattle.text.proofs.WriteLaws.{appended-inside}
 use Rattle.files.specs.Texts.{longestListing}
-use Rattle.files.proofs.WrittenLaws.{wrote-inside}
 
 pub length-process : (p : ℕ) → p < processes → length (decimal p) ≤ 3
 length-process p h = length-decimal p 3 (omega arith) (omega arith)
@@ -59,7 +59,7 @@ module _ (place : ℕ → Place) (g : ℕ) where
           record {
             low = omega arith;
             short = omega (arith, l .short, w .end, length-append (decimal p) (10 ∷ []), length-process p h);
-            inside = wrote-inside (l .inside) w;
+            inside = appended-inside (l .inside) w;
             text =
                 rw (w .front, append-assoc)
                 (rw (left, left-line p (processes - (p + 1)) e, ← add-one p) at (l .text));

@@ -13,7 +13,7 @@ use Rattle.model.specs.Hierarchy.{factsOf}
 use Rattle.model.specs.Files.{path, contents}
 use Rattle.model.specs.declared.File.{File}
 use Rattle.model.specs.declared.ReadAnswer.{ReadAnswer}
-use Rattle.text.specs.Write.{Appended, Delivered}
+use Rattle.text.specs.Write.{Appended, Delivers}
 use Rattle.tree.specs.Layout.{view}
 use Rattle.tree.specs.Kept.{Kept, KeptAt}
 
@@ -39,7 +39,7 @@ Renders xs g file old new k = Appended old 0 (contents (factsOf (view xs)) g fil
 
 -- the text of a file delivered
 abbrev pub DeliversFile : List ℕ → ℕ → File → List ℕ → ReadAnswer → List ℕ → Type 0
-DeliversFile xs g file old r new = Delivered (contents (factsOf (view xs)) g file) old r new
+DeliversFile xs g file old r new = Delivers (contents (factsOf (view xs)) g file) old r new
 
 -- a live group so deep, and room for its path
 pub record HasPath (xs : List ℕ) (g deep : ℕ) (out : List ℕ) (at : ℕ) : Type 0 where

@@ -41,7 +41,7 @@ const LONGEST_LISTING: usize = PROCESSES as usize * 4;
 const LONGEST_OTHER: usize = 128;
 
 // The longest membership line: "0::", for each level a number of two digits at most after "/", and a newline.
-const LONGEST_LINE: usize = DEEPEST as usize * 3 + 4;
+const LONGEST_MEMBERSHIP: usize = DEEPEST as usize * 3 + 4;
 
 // Whether a group has the file.
 fn is_present(t: &Tree, g: GroupId, file: File) -> bool
@@ -127,7 +127,7 @@ pub fn membership(tree: &Tree, process: ProcessId, reply: &mut [u8]) -> ReadAnsw
     if !is_process(tree, process) {
         return ReadAnswer::Refused(Errno::Esrch);
     }
-    let mut scratch = [0u8; LONGEST_LINE];
+    let mut scratch = [0u8; LONGEST_MEMBERSHIP];
     let end = put_membership(tree, process, &mut scratch);
     deliver(reply, &scratch[..end])
 }

@@ -31,7 +31,7 @@ pub record Moves (c : Call) (p g : ℕ) : Type 0 where
   pub call : c ≡ Call.writeProcs user g line
   pub process : lineProcess line ≡ p
 
-pub record Gives (c : Call) (g owner : ℕ) : Type 0 where
+pub record HandsOver (c : Call) (g owner : ℕ) : Type 0 where
   pub giver : ℕ
   pub call : c ≡ Call.handOver giver g owner
 
@@ -49,7 +49,7 @@ pub data Flowed (c : Call) (s : Resource) (Room : ℕ → Type 0) (a b : ℕ) : 
   went : (n : ℕ) → flow c ≡ Flow.out s n → b + n ≡ a → Flowed c s Room a b
 
 -- a process that is put nowhere, or in a live group that may have processes
-pub record Standing (t : Tree) (v : Process) : Type 0 where
+pub record StandsLive (t : Tree) (v : Process) : Type 0 where
   pub group : ℕ
   pub here : v .place ≡ at group
   pub alive : lives t group ≡ true
@@ -58,7 +58,7 @@ pub record Standing (t : Tree) (v : Process) : Type 0 where
 pub record Placing (t : Tree) (c : Call) (p : ℕ) (v : Process) : Type 0 where
   pub number : p ≢ 0
   pub low : p < processes
-  pub stands : (v ≡ noProcess) ⊎ Standing t v
+  pub stands : (v ≡ noProcess) ⊎ StandsLive t v
   pub moved : (g h : ℕ) → places t p ≡ at g → v .place ≡ at h → (g ≡ h) ⊎ Moves c p h
   pub heads : Flowed c Processes (λ _. Unit {0}) (headcount (places t p)) (headcount (v .place))
 
@@ -68,11 +68,11 @@ module _ {t : Tree} {c : Call} {p : ℕ} {v : Process} (k : Placing t c p v) whe
       ⊎-elim
       (λ (n : v ≡ noProcess). let m : nowhere ≡ at g = sym (ap (λ x. x .place) n) ∙ e in
       let z : _≡_ {A = ℕ} 0 1 = cc in absurd (omega arith))
-      (λ (s : Standing t v). let d : s .group ≡ g = cc (s .here) in rw (← d) (s .alive, s .quiet))
+      (λ (s : StandsLive t v). let d : s .group ≡ g = cc (s .here) in rw (← d) (s .alive, s .quiet))
       (k .stands)
 
   pub place-blank : processTaken v ≡ false → v ≡ noProcess
-  place-blank f = ⊎-elim (λ n. n) (λ (s : Standing t v). clash (isLive (v .place)) (rw (s .here)) f) (k .stands)
+  place-blank f = ⊎-elim (λ n. n) (λ (s : StandsLive t v). clash (isLive (v .place)) (rw (s .here)) f) (k .stands)
 
 -- "would pass memory.max" of no group on the way up from g
 abbrev pub RoomAbove : Tree → ℕ → ℕ → Type 0
@@ -81,7 +81,7 @@ RoomAbove t g n = (a : ℕ) → inside (parents t) a g ≡ true → over (usage 
 -- a live group that keeps its place and its set, and what may change in it
 pub record Altering (t : Tree) (c : Call) (g : ℕ) (v : Group) : Type 0 where
   pub patch : Patch t g v
-  pub owner : (v .owner ≡ owners t g) ⊎ Gives c g (v .owner)
+  pub owner : (v .owner ≡ owners t g) ⊎ HandsOver c g (v .owner)
   pub pages : Flowed c Pages (RoomAbove t g) (t .group g .core .own) (v .core .own)
   pub limit : (v .core .limit Pages ≡ t .group g .core .limit Pages) ⊎ WritesSetting c
 

@@ -22,7 +22,7 @@ use Rattle.model.proofs.ChainLaws.{inside-up, inside-after-make, inside
 use Rattle.model.proofs.RuleLaws.{NoChild}
 use Rattle.model.proofs.Preservation.{Patch, part-after-remove}
 use Rattle.model.proofs.ControlPreservation.{live-after-control, parent-after-control, owner-after-control}
-use Rattle.model.proofs.Changes.{Gives, Making, Change, nothing, placed, altered, made, removal, control}
+use Rattle.model.proofs.Changes.{HandsOver, Making, Change, nothing, placed, altered, made, removal, control}
 use Rattle.model.proofs.Steps.{step-accepted, step-refused, by-verdict, passed, change, well-formed-effect, well-formed-step}
 use Rattle.model.proofs.Books.{reply-number}
 use Rattle.model.proofs.Containment.{owner-of-write, contained}
@@ -68,7 +68,7 @@ module _ (t : Tree) (w : WellFormed t) (user d : ℕ) (nz : user ≢ 0) (own : O
       (λ ne. own g lg (sym (ap (λ x. x .owner) (upd-other (t .group) h v g ne)) ∙ o)))
 
   -- a group is handed over, not from outside to the user
-  given-inside : (h : ℕ) (v : Group) (c : Call) → Accepted t c → (GivesOutside user d t c → ⊥) → Gives c h (v .owner)
+  given-inside : (h : ℕ) (v : Group) (c : Call) → Accepted t c → (GivesOutside user d t c → ⊥) → HandsOver c h (v .owner)
       → v .owner ≡ user → inside (parents t) d h ≡ true
   given-inside h v c z f k e =
       split (inside (parents t) d h) (λ i. i)
@@ -87,7 +87,7 @@ module _ (t : Tree) (w : WellFormed t) (user d : ℕ) (nz : user ≢ 0) (own : O
       owns-altered g v (k .patch)
       (λ e. ⊎-elim
       (λ same. own g (k .patch .alive) (sym same ∙ e))
-      (λ (h : Gives c g (v .owner)). given-inside g v c z f h e)
+      (λ (h : HandsOver c g (v .owner)). given-inside g v c z f h e)
       (k .owner))
   owns-change (made by parent new x k) z w′ f = owns-made by parent new k w′
   owns-change (removal g x k) z w′ f = owns-removed g (k .noChild)

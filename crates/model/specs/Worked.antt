@@ -198,15 +198,15 @@ unfoldable pub table : List Evening
 table = limitsAndCharges ∷ rounding ∷ weights ∷ lastWord ∷ delegation ∷ membershipPath ∷ []
 
 -- What the book of demand 3 keeps of a group's pages after the first calls of an evening: the limit, the usage and the mark.
-pub record Booked : Type 0 where
+pub record BookRow : Type 0 where
   pub calls : ℕ
   pub group : ℕ
   pub limit : ℕ
   pub usage : ℕ
   pub mark : ℕ
 
-abbrev pub booked : ℕ → ℕ → ℕ → ℕ → ℕ → Booked
-booked n g l u m = record { calls = n; group = g; limit = l; usage = u; mark = m }
+abbrev pub bookRow : ℕ → ℕ → ℕ → ℕ → ℕ → BookRow
+bookRow n g l u m = record { calls = n; group = g; limit = l; usage = u; mark = m }
 
 abbrev pub firstCalls : Evening → ℕ → List Call
 firstCalls e n = map (λ (r : Row). r .call) (take n (e .rows))
@@ -218,21 +218,21 @@ abbrev pub isFigure : ℕ → Limit → Bool
 isFigure n NoLimit = false
 isFigure n (Figure m) = eqb m n
 
-abbrev pub isBooked : Book → Booked → Bool
+abbrev pub isBooked : Book → BookRow → Bool
 isBooked b x =
     isFigure (x .limit) (b .group (x .group) .limit Pages)
     && (eqb (inBook b Pages (x .group)) (x .usage) && eqb (b .mark (x .group)) (x .mark))
 
-unfoldable pub allBooked : Evening → List Booked → Bool
+unfoldable pub allBooked : Evening → List BookRow → Bool
 allBooked e [] = true
 allBooked e (x ∷ xs) = elim (isBooked (bookOfEvening e (x .calls)) x) [ true ↦ allBooked e xs | false ↦ false ]
 
 -- P1 to P4, in pages: after each of the two limits, after P1, after P3's release, after P3, after P4. After P3 group 1 has as many
 -- as its mark, and more than its limit; after P1 group 2 has as many as its limit.
-unfoldable pub marks : List Booked
+unfoldable pub marks : List BookRow
 marks =
-    booked 5 1 10 0 0 ∷ booked 6 2 8 0 0 ∷ booked 9 1 10 8 0 ∷ booked 9 2 8 8 0
-    ∷ booked 12 1 10 6 0 ∷ booked 13 1 5 6 6 ∷ booked 13 2 8 6 0 ∷ booked 15 1 5 6 6 ∷ []
+    bookRow 5 1 10 0 0 ∷ bookRow 6 2 8 0 0 ∷ bookRow 9 1 10 8 0 ∷ bookRow 9 2 8 8 0
+    ∷ bookRow 12 1 10 6 0 ∷ bookRow 13 1 5 6 6 ∷ bookRow 13 2 8 6 0 ∷ bookRow 15 1 5 6 6 ∷ []
 
 -- A second write marks anew, less than before too; a limit of processes, a charge, a release and a refused write leave the mark.
 abbrev pub rewriting : Evening
@@ -251,8 +251,8 @@ rewriting =
     ∷ refuses (setting 0 1 "memory.max" "x") 22
     ∷ [])
 
-unfoldable pub rewritten : List Booked
-rewritten = booked 6 1 5 6 6 ∷ booked 7 1 5 2 6 ∷ booked 8 1 10 2 2 ∷ booked 9 1 10 3 2 ∷ booked 10 1 10 3 2 ∷ booked 11 1 10 3 2 ∷ []
+unfoldable pub rewritten : List BookRow
+rewritten = bookRow 6 1 5 6 6 ∷ bookRow 7 1 5 2 6 ∷ bookRow 8 1 10 2 2 ∷ bookRow 9 1 10 3 2 ∷ bookRow 10 1 10 3 2 ∷ bookRow 11 1 10 3 2 ∷ []
 
 -- Pages and processes that came in and went out in P1 to P5, all but the last three calls: 8 charged and 2 released, one birth and one
 -- exit; and at the end, where 6 more are released and a release of 7 is refused twice.

@@ -15,7 +15,7 @@ use Rattle.model.specs.Names.{controllerName, controllerNamed}
 use Rattle.model.specs.Control.{Ask, keep, enable, disable, plusSign, minusSign, isControlWord, askedBy, orBefore}
 use Rattle.model.specs.Control.{askedFrom, firstBad}
 use Rattle.model.specs.declared.Controller.{Controller}
-use Rattle.text.specs.Line.{cut, NextWord}
+use Rattle.text.specs.Line.{spanned, NextWord}
 use Rattle.text.specs.Control.{BadSpan}
 use Rattle.text.specs.declared.line.Span.{Span}
 use Rattle.text.proofs.WordLaws.{starts-out}
@@ -100,11 +100,11 @@ module _ (l : List ℕ) (at : ℕ) (p : Span) (w : NextWord l at p) where
   bad-none h = rw (w .none h)
 
   module _ (h : p .start < length l) where
-    pub bad-later : isControlWord (cut l p) ≡ true → firstBad (starts (drop (p .end) l)) ≡ firstBad (starts (drop at l))
+    pub bad-later : isControlWord (spanned l p) ≡ true → firstBad (starts (drop (p .end) l)) ≡ firstBad (starts (drop at l))
     unfolding firstBad
     bad-later g = rw (w .rest h, ← w .word, g)
 
-    pub bad-here : isControlWord (cut l p) ≡ false → firstBad (starts (drop at l)) ≡ drop (p .start) l
+    pub bad-here : isControlWord (spanned l p) ≡ false → firstBad (starts (drop at l)) ≡ drop (p .start) l
     unfolding firstBad
     bad-here g = rw (w .rest h, ← w .word, g)
 

@@ -10,7 +10,7 @@ use lib.Seq.{length-take-le, take-take, take-nil, drop-nil}
 use types.Run.{OneOf, miss}
 use denote.Enum.Declared.{tagOf}
 use Rattle.model.specs.Text.{words, lineWords}
-use Rattle.text.specs.Line.{cut, Inside, LineEnd, NextWord, OneWord, SplitAs, soleWord}
+use Rattle.text.specs.Line.{spanned, Inside, LineEnd, NextWord, OneWord, SplitAs, soleWord}
 use Rattle.text.specs.declared.line.Span.{Span}
 use Rattle.text.specs.declared.line.Words.{Words}
 use Rattle.text.specs.declared.line.Words.the-variants.{Empty, One, Two, More}
@@ -28,8 +28,8 @@ module _ (l : List ℕ) (n : ℕ) (h : n ≤ length l) (p : Span) (i : Inside (t
   inside-front : Inside l p
   inside-front = record { order = i .order; bound = omega (arith, length-take-le n l h, i .bound) }
 
-  cut-front : cut (take n l) p ≡ cut l p
-  cut-front =
+  spanned-front : spanned (take n l) p ≡ spanned l p
+  spanned-front =
       rw drop-take
       (take-take (p .end - p .start) (n - p .start) (drop (p .start) l) (omega (arith, length-take-le n l h, i .bound)))
 
@@ -43,11 +43,11 @@ module _ (line : List ℕ) (n : ℕ) (e : LineEnd line n) where
 
   -- one word more of the text
   next-of-text : (at : ℕ) (p : Span) → NextWord (take n line) at p → (p .start ≡ n → ⊥)
-      → words (drop at (take n line)) ≡ cut line p ∷ words (drop (p .end) (take n line))
+      → words (drop at (take n line)) ≡ spanned line p ∷ words (drop (p .end) (take n line))
   next-of-text at p w m =
       let i = w .inside in
       words-next (take n line) at p w (omega (arith, text-length, i .order, i .bound, m))
-      ∙ ap (λ (z : List ℕ). z ∷ words (drop (p .end) (take n line))) (cut-front line n (line-end-inside line n e) p i)
+      ∙ ap (λ (z : List ℕ). z ∷ words (drop (p .end) (take n line))) (spanned-front line n (line-end-inside line n e) p i)
 
   none-of-text : (at : ℕ) (p : Span) → NextWord (take n line) at p → p .start ≡ n → words (drop at (take n line)) ≡ []
   none-of-text at p w m = words-none (take n line) at p w (m ∙ text-length)
@@ -81,7 +81,7 @@ module _ (line : List ℕ) (n : ℕ) (e : LineEnd line n) where
 
 -- ---- the word of a line that has exactly one
 
-pub one-word : (line : List ℕ) (p : Span) → OneWord line p → cut line p ≡ soleWord (lineWords line)
+pub one-word : (line : List ℕ) (p : Span) → OneWord line p → spanned line p ≡ soleWord (lineWords line)
 one-word line p o = rw (o .words-are)
 
 -- no bytes where the words are of another kind, by the number of their variant

@@ -11,7 +11,7 @@ use lib.Seq.{drop-cons, drop-drop, drop-length}
 use borrow.Author.Tests.{eq-eqb, ne-eqb}
 use Rattle.model.specs.Functions.{pick}
 use Rattle.model.specs.Text.{space, leadingWord, startsIn, starts, words}
-use Rattle.text.specs.Line.{cut, WordEnd, NextWord}
+use Rattle.text.specs.Line.{spanned, WordEnd, NextWord}
 use Rattle.text.specs.declared.line.Span.{Span}
 
 -- ---- leadingWord
@@ -129,7 +129,7 @@ module _ (l : List ℕ) (at s : ℕ) (a : at ≤ s) (same : starts (drop s l) �
 -- ---- the words from `at` on, by the next word
 
 module _ (l : List ℕ) (at : ℕ) (p : Span) (w : NextWord l at p) where
-  pub words-next : p .start < length l → words (drop at l) ≡ cut l p ∷ words (drop (p .end) l)
+  pub words-next : p .start < length l → words (drop at l) ≡ spanned l p ∷ words (drop (p .end) l)
   unfolding words
   words-next h = ap (map leadingWord) (w .rest h) ∙ ap (λ (z : List ℕ). z ∷ words (drop (p .end) l)) (sym (w .word))
 

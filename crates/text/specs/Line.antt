@@ -4,13 +4,14 @@ use mathlib.Core.List.{List, [], _∷_}
 use mathlib.Core.Path.{_≡_}
 use lib.ListN.{length, take, drop}
 use Rattle.model.specs.Text.{body, leadingWord, starts, lineWords}
+use Rattle.model.specs.Words.{cut}
 use Rattle.text.specs.declared.line.Span.{Span}
 use Rattle.text.specs.declared.line.Words.{Words}
 use Rattle.text.specs.declared.line.Words.the-variants.{Empty, One, Two, More}
 
 -- the bytes of a part
-abbrev pub cut : List ℕ → Span → List ℕ
-cut text p = take (p .end - p .start) (drop (p .start) text)
+abbrev pub spanned : List ℕ → Span → List ℕ
+spanned text p = cut text (p .start) (p .end - p .start)
 
 -- p is a part of the text
 pub record Inside (text : List ℕ) (p : Span) : Type 0 where
@@ -31,7 +32,7 @@ pub record WordEnd (text : List ℕ) (at r : ℕ) : Type 0 where
 pub record NextWord (text : List ℕ) (at : ℕ) (p : Span) : Type 0 where
   pub after : at ≤ p .start
   pub inside : Inside text p
-  pub word : cut text p ≡ leadingWord (drop (p .start) text)
+  pub word : spanned text p ≡ leadingWord (drop (p .start) text)
   pub none : p .start ≡ length text → starts (drop at text) ≡ []
   pub some : p .start < length text → p .start < p .end
   pub rest : p .start < length text → starts (drop at text) ≡ drop (p .start) text ∷ starts (drop (p .end) text)
@@ -39,12 +40,12 @@ pub record NextWord (text : List ℕ) (at : ℕ) (p : Span) : Type 0 where
 -- The words of a line are those parts of it; of three words or more nothing else is said.
 pub record OneWord (line : List ℕ) (p : Span) : Type 0 where
   pub inside : Inside line p
-  pub words-are : lineWords line ≡ cut line p ∷ []
+  pub words-are : lineWords line ≡ spanned line p ∷ []
 
 pub record TwoWords (line : List ℕ) (p q : Span) : Type 0 where
   pub first : Inside line p
   pub second : Inside line q
-  pub words-are : lineWords line ≡ cut line p ∷ cut line q ∷ []
+  pub words-are : lineWords line ≡ spanned line p ∷ spanned line q ∷ []
 
 abbrev pub SplitAs : List ℕ → Words → Type 0
 SplitAs line Empty = lineWords line ≡ []

@@ -26,6 +26,6 @@ abbrev pub delivery : List ℕ → List ℕ → Answer
 delivery text buffer = pick (fits text buffer) Answer.Done (Answer.Refused Errno.Enospc)
 
 -- the answer and the whole buffer after a delivery
-pub record Delivered (text old : List ℕ) (r : ReadAnswer) (new : List ℕ) : Type 0 where
+pub record Delivers (text old : List ℕ) (r : ReadAnswer) (new : List ℕ) : Type 0 where
   pub answer : r ≡ readAnswer (delivery text old) text
   pub buffer : new ≡ bufferAfter (delivery text old) text old

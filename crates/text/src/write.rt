@@ -6,7 +6,7 @@ ghost use mathlib.Core.Path.{_≡_};
 ghost use lib.ListN.{length};
 ghost use Rattle.model.specs.Text.{decimal};
 ghost use Rattle.model.specs.Settings.{limitText};
-ghost use Rattle.text.specs.Write.{Appended, Copied, Delivered};
+ghost use Rattle.text.specs.Write.{Appended, Copied, Delivers};
 use model::Errno;
 use model::Limit;
 use model::ReadAnswer;
@@ -74,7 +74,7 @@ pub fn put_limit(out: &mut [u8], at: usize, limit: Limit) -> usize
 // The text goes to the front of the caller's buffer, and its length is told. Where it does not fit the answer is 28,
 // and the buffer stays as it was.
 pub fn deliver(buf: &mut [u8], text: &[u8]) -> ReadAnswer
-    ensures { λ r. ⌜ Delivered (now (text .entry)) (now (buf .entry)) r (now (buf .exit)) ⌝ }
+    ensures { λ r. ⌜ Delivers (now (text .entry)) (now (buf .entry)) r (now (buf .exit)) ⌝ }
 {
     if buf.len() < text.len() {
         return ReadAnswer::Refused(Errno::Enospc);

@@ -1,6 +1,6 @@
 -- `files::list::put_controllers` meets its contract: the set is asked for each controller. Assumes nothing.
 use borrow.Author.Needs.{needs}
-use Rattle.text.proofs.WriteLaws.{wrote-as}
+use Rattle.text.proofs.WriteLaws.{appended-as}
 use Rattle.tree.proofs.KeptLaws.{live-row}
 use Rattle.files.proofs.NameLineLaws.{controllers-text}
 use Rattle.files.proofs.list.put_controllers.Statement.{statement}
@@ -28,7 +28,7 @@ returns c =
     let m = p .before in
     let k = m .before in
     let a = k .before .before .args in
-    wrote-as
+    appended-as
     (controllers-text (a .t .now) (a .g .0) _ _ _
     (k .is-available .ensures)
     (m .is-available2 .ensures)

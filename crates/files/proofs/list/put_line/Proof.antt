@@ -1,6 +1,6 @@
 -- `files::list::put_line` meets its contract. Assumes nothing.
 use borrow.Author.Needs.{needs}
-use Rattle.text.proofs.WriteLaws.{wrote-then}
+use Rattle.text.proofs.WriteLaws.{appended-then}
 use Rattle.files.proofs.list.put_line.Statement.{statement}
 use Rattle.files.proofs.list.put_line.Tie as tie
 
@@ -17,7 +17,7 @@ returns : tie.Need-returns
 returns c =
     let b = c .before .before in
     let n = b .before .before .before .before in
-    wrote-then (n .put-number .ensures) (b .put-byte .ensures)
+    appended-then (n .put-number .ensures) (b .put-byte .ensures)
 
 pub put-line-spec : {M : Type 1} → statement M
 put-line-spec = tie.close (tie.spec put-number-requires put-byte-requires same-length returns)

@@ -1,8 +1,7 @@
 -- `files::list::put_name` meets its contract: nothing, the name, or a space and the name. Assumes nothing.
 use borrow.Author.Tests.{not-true, not-false}
 use borrow.Author.Needs.{needs}
-use Rattle.text.proofs.WriteLaws.{wrote-then, wrote-as}
-use Rattle.files.proofs.WrittenLaws.{wrote-nothing}
+use Rattle.text.proofs.WriteLaws.{appended-then, appended-as, appended-nothing}
 use Rattle.files.proofs.NameLineLaws.{name-unlisted, name-first, name-next}
 use Rattle.files.proofs.list.put_name.Statement.{statement}
 use Rattle.files.proofs.list.put_name.Tie as tie
@@ -11,8 +10,8 @@ use Rattle.files.proofs.list.put_name.Tie as tie
 returns : tie.Need-returns
 returns c =
     let a = c .before .before .before .args in
-    wrote-as (name-unlisted (a .at) (a .name .now) (a .listed) (not-true _ (c .if1 .taken)))
-    (wrote-nothing (a .out .now) (a .at))
+    appended-as (name-unlisted (a .at) (a .name .now) (a .listed) (not-true _ (c .if1 .taken)))
+    (appended-nothing (a .out .now) (a .at))
 
 put-text-requires : tie.Need-put-text-requires
 put-text-requires c κs = search needs
@@ -26,7 +25,7 @@ returns-2 c =
     let w = c .before .before in
     let i = w .before .before in
     let a = i .before .before .before .before .args in
-    wrote-as (name-first (a .at) (a .name .now) (a .listed) (not-false _ (i .before .if1 .left)) (i .if2 .taken))
+    appended-as (name-first (a .at) (a .name .now) (a .listed) (not-false _ (i .before .if1 .left)) (i .if2 .taken))
     (w .put-text .ensures)
 
 put-byte-requires : tie.Need-put-byte-requires
@@ -45,8 +44,8 @@ returns-3 c =
     let b = w .before .before .before .before in
     let i = b .before .before in
     let a = i .before .before .before .before .args in
-    wrote-as (name-next (a .at) (a .name .now) (a .listed) (not-false _ (i .before .if1 .left)) (i .if2 .left))
-    (wrote-then (b .put-byte .ensures) (w .put-text2 .ensures))
+    appended-as (name-next (a .at) (a .name .now) (a .listed) (not-false _ (i .before .if1 .left)) (i .if2 .left))
+    (appended-then (b .put-byte .ensures) (w .put-text2 .ensures))
 
 pub put-name-spec : {M : Type 1} → statement M
 put-name-spec =

@@ -1,6 +1,6 @@
 -- `files::list::put_subtree_control` meets its contract: the set is asked for each controller. Assumes nothing.
 use borrow.Author.Needs.{needs}
-use Rattle.text.proofs.WriteLaws.{wrote-as}
+use Rattle.text.proofs.WriteLaws.{appended-as}
 use Rattle.files.proofs.NameLineLaws.{control-text}
 use Rattle.files.proofs.list.put_subtree_control.Statement.{statement}
 use Rattle.files.proofs.list.put_subtree_control.Tie as tie
@@ -27,7 +27,7 @@ returns c =
     let m = p .before in
     let k = m .before in
     let a = k .before .before .args in
-    wrote-as (control-text (a .t .now) (a .g .0) _ _ _ (k .has .ensures) (m .has2 .ensures) (p .has3 .ensures))
+    appended-as (control-text (a .t .now) (a .g .0) _ _ _ (k .has .ensures) (m .has2 .ensures) (p .has3 .ensures))
     (w .put-names .ensures)
 
 pub put-subtree-control-spec : {M : Type 1} → statement M

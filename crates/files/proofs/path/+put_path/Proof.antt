@@ -6,12 +6,11 @@ use mathlib.Core.Path.{_∙_}
 use borrow.Fn.Kinds.{In}
 use borrow.Fn.PlainCycle.{Measures, is, falls, and}
 use Rattle.model.specs.Tree.{parents}
-use Rattle.text.proofs.WriteLaws.{wrote-then, wrote-as}
+use Rattle.text.proofs.WriteLaws.{appended-then, appended-as, appended-nothing}
 use Rattle.text.proofs.write.put_byte.Reads as put-byte-reads
 use Rattle.text.proofs.write.put_number.Reads as put-number-reads
 use Rattle.tree.specs.Layout.{view}
 use Rattle.tree.proofs.group.parent.Reads as parent-reads
-use Rattle.files.proofs.WrittenLaws.{wrote-nothing}
 use Rattle.files.proofs.PathLaws.{path-none, path-text, path-fits, path-above}
 use Rattle.files.proofs.path.+put_path.{statement}
 use Rattle.files.proofs.path.+put_path.Lts-put_path as lts
@@ -47,8 +46,8 @@ module _ (t : ℕ) where
   returns : lts.Need-returns (claims t) (put-path-at t) put-path.Post
   returns c =
       let a = c .before .before .args in
-      wrote-as (path-none (parents (view (a .t .now))) (a .deep) (a .g .0) (c .if1 .taken))
-      (wrote-nothing (a .out .now) (a .at))
+      appended-as (path-none (parents (view (a .t .now))) (a .deep) (a .g .0) (c .if1 .taken))
+      (appended-nothing (a .out .now) (a .at))
 
   parent-requires : lts.Need-parent-requires (claims t) (put-path-at t) put-path.Post
   parent-requires c κs = let k = c .before .before .pre .1 .group in k .kept .formed .sound .range _ (k .live)
@@ -106,8 +105,8 @@ module _ (t : ℕ) where
       let p = b .before .before .before .before in
       let u = p .before .before in
       let s = u .before .before .before in
-      wrote-as (path-text _ _ _ _ _ (s .pre .1) (u .before .if1 .left) _ (u .parent .ensures))
-      (wrote-then (p .put-path .ensures) (wrote-then (b .put-byte .ensures) (n .put-number .ensures)))
+      appended-as (path-text _ _ _ _ _ (s .pre .1) (u .before .if1 .left) _ (u .parent .ensures))
+      (appended-then (p .put-path .ensures) (appended-then (b .put-byte .ensures) (n .put-number .ensures)))
 
 pub +put-path-spec : {M : Type 1} → statement M
 +put-path-spec =

@@ -1,7 +1,7 @@
 -- `files::path::put_membership` meets its contract. Assumes nothing.
 use native.Mathlib.Omega.{arith}
 use borrow.Author.Needs.{needs}
-use Rattle.text.proofs.WriteLaws.{wrote-then, wrote-as}
+use Rattle.text.proofs.WriteLaws.{appended-then, appended-as}
 use Rattle.files.proofs.PathLaws.{length-place, live-number, live-group, membership-text}
 use Rattle.files.proofs.path.put_membership.Statement.{statement}
 use Rattle.files.proofs.path.put_membership.Tie as tie
@@ -53,8 +53,8 @@ returns c =
     let g = p .before .before in
     let w = g .before .before .before in
     let s = w .before .before .before .before in
-    wrote-as (membership-text (s .args .t .now) (s .args .p .0) _ (g .process-group .ensures))
-    (wrote-then (w .put-text .ensures) (wrote-then (p .put-place .ensures) (b .put-byte .ensures)))
+    appended-as (membership-text (s .args .t .now) (s .args .p .0) _ (g .process-group .ensures))
+    (appended-then (w .put-text .ensures) (appended-then (p .put-place .ensures) (b .put-byte .ensures)))
 
 pub put-membership-spec : {M : Type 1} → statement M
 put-membership-spec =

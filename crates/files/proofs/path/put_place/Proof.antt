@@ -1,6 +1,6 @@
 -- `files::path::put_place` meets its contract: a group's path has no more steps than its depth. Assumes nothing.
 use borrow.Author.Needs.{needs}
-use Rattle.text.proofs.WriteLaws.{wrote-as}
+use Rattle.text.proofs.WriteLaws.{appended-as}
 use Rattle.files.proofs.PathLaws.{place-root, place-path, place-room}
 use Rattle.files.proofs.path.put_place.Statement.{statement}
 use Rattle.files.proofs.path.put_place.Tie as tie
@@ -17,7 +17,7 @@ returns c =
     let w = c .before .before in
     let i = w .before .before in
     let s = i .before .before .before in
-    wrote-as (place-root (s .args .t .now) (s .args .g .0) (s .pre .0) (i .if1 .taken)) (w .put-byte .ensures)
+    appended-as (place-root (s .args .t .now) (s .args .g .0) (s .pre .0) (i .if1 .taken)) (w .put-byte .ensures)
 
 depth-requires : tie.Need-depth-requires
 depth-requires c κs = let k = c .before .before .before .pre .0 in k .kept .formed .sound .range _ (k .live)
@@ -36,7 +36,7 @@ returns-2 c =
     let w = c .before .before in
     let d = w .before .before in
     let s = d .before .before .before .before in
-    wrote-as (place-path _ _ (s .pre .0) (d .before .if1 .left) _ (d .depth .ensures)) (w .put-path .ensures)
+    appended-as (place-path _ _ (s .pre .0) (d .before .if1 .left) _ (d .depth .ensures)) (w .put-path .ensures)
 
 pub put-place-spec : {M : Type 1} → statement M
 put-place-spec =

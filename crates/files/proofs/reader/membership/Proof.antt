@@ -4,7 +4,7 @@ use mathlib.Core.Path.{sym, _∙_}
 use lib.Seq.{length-take-le}
 use borrow.Author.Tests.{not-true, not-false}
 use borrow.Author.Needs.{needs}
-use Rattle.files.proofs.WrittenLaws.{wrote-inside}
+use Rattle.text.proofs.WriteLaws.{appended-inside}
 use Rattle.files.proofs.DeliveryLaws.{membership-no-number, membership-dead, membership-delivered}
 use Rattle.files.proofs.reader.membership.Statement.{statement}
 use Rattle.files.proofs.reader.membership.Tie as tie
@@ -39,12 +39,12 @@ put-membership-requires c κs =
 array-share-prefix-scratch : tie.Need-array-share-prefix-scratch
 array-share-prefix-scratch c =
     let w = c .before .before in
-    omega (arith, wrote-inside (omega arith) (w .put-membership .ensures), w .put-membership .kept .1 .1 .0)
+    omega (arith, appended-inside (omega arith) (w .put-membership .ensures), w .put-membership .kept .1 .1 .0)
 
 slice-aggregate-deliver : tie.Need-slice-aggregate-deliver
 slice-aggregate-deliver c =
     let w = c .before .before .before in
-    sym (length-take-le _ _ (wrote-inside (omega arith) (w .put-membership .ensures)))
+    sym (length-take-le _ _ (appended-inside (omega arith) (w .put-membership .ensures)))
 
 deliver-requires : tie.Need-deliver-requires
 deliver-requires c κs = search needs

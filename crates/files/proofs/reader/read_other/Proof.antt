@@ -3,7 +3,7 @@ use native.Mathlib.Omega.{arith}
 use mathlib.Core.Path.{sym}
 use lib.Seq.{length-take-le}
 use borrow.Author.Needs.{needs}
-use Rattle.files.proofs.WrittenLaws.{wrote-inside}
+use Rattle.text.proofs.WriteLaws.{appended-inside}
 use Rattle.files.proofs.DeliveryLaws.{delivered-text}
 use Rattle.files.proofs.reader.read_other.Statement.{statement}
 use Rattle.files.proofs.reader.read_other.Tie as tie
@@ -19,12 +19,12 @@ render-requires c κs =
 array-share-prefix-scratch : tie.Need-array-share-prefix-scratch
 array-share-prefix-scratch c =
     let w = c .before .before in
-    omega (arith, wrote-inside (omega arith) (w .render .ensures), w .render .kept .1 .1 .1 .0)
+    omega (arith, appended-inside (omega arith) (w .render .ensures), w .render .kept .1 .1 .1 .0)
 
 slice-aggregate-deliver : tie.Need-slice-aggregate-deliver
 slice-aggregate-deliver c =
     let w = c .before .before .before in
-    sym (length-take-le _ _ (wrote-inside (omega arith) (w .render .ensures)))
+    sym (length-take-le _ _ (appended-inside (omega arith) (w .render .ensures)))
 
 deliver-requires : tie.Need-deliver-requires
 deliver-requires c κs = search needs

@@ -4,7 +4,7 @@ use borrow.Author.Needs.{needs}
 use Rattle.model.specs.Hierarchy.{factsOf}
 use Rattle.model.specs.Files.{contents}
 use Rattle.model.specs.declared.File.{File}
-use Rattle.text.proofs.WriteLaws.{wrote-as}
+use Rattle.text.proofs.WriteLaws.{appended-as}
 use Rattle.tree.specs.Layout.{view}
 use Rattle.files.proofs.reader.render.Statement.{statement}
 use Rattle.files.proofs.reader.render.Tie as tie
@@ -58,7 +58,7 @@ returns-2 : tie.Need-returns-2
 returns-2 c =
     let w = c .before .before in
     let m = w .before .before in
-    wrote-as (shows (m .before .before .before) (sym (m .enum-told2 .given .1))) (w .put-controllers .ensures)
+    appended-as (shows (m .before .before .before) (sym (m .enum-told2 .given .1))) (w .put-controllers .ensures)
 
 same-length-2 : tie.Need-same-length-2
 same-length-2 c = search needs
@@ -67,7 +67,7 @@ returns-3 : tie.Need-returns-3
 returns-3 c =
     let w = c .before .before in
     let m = w .before .before in
-    wrote-as (shows (m .before .before .before) (sym (m .enum-told3 .given .1))) (w .put-subtree-control .ensures)
+    appended-as (shows (m .before .before .before) (sym (m .enum-told3 .given .1))) (w .put-subtree-control .ensures)
 
 same-length-3 : tie.Need-same-length-3
 same-length-3 c = search needs
@@ -76,7 +76,7 @@ returns-4 : tie.Need-returns-4
 returns-4 c =
     let w = c .before .before in
     let m = w .before .before in
-    wrote-as (shows (m .before .before .before) (sym (m .enum-told4 .given .1))) (w .put-events .ensures)
+    appended-as (shows (m .before .before .before) (sym (m .enum-told4 .given .1))) (w .put-events .ensures)
 
 same-length-4 : tie.Need-same-length-4
 same-length-4 c = search needs
@@ -85,7 +85,7 @@ returns-5 : tie.Need-returns-5
 returns-5 c =
     let w = c .before .before in
     let m = w .before .before .before in
-    wrote-as (shows (m .before .before .before) (sym (m .file .given .1))) (w .put-current .ensures)
+    appended-as (shows (m .before .before .before) (sym (m .file .given .1))) (w .put-current .ensures)
 
 same-length-5 : tie.Need-same-length-5
 same-length-5 c = search needs
@@ -94,7 +94,7 @@ returns-6 : tie.Need-returns-6
 returns-6 c =
     let w = c .before .before in
     let m = w .before .before .before in
-    wrote-as (shows (m .before .before .before) (sym (m .file2 .given .1))) (w .put-setting .ensures)
+    appended-as (shows (m .before .before .before) (sym (m .file2 .given .1))) (w .put-setting .ensures)
 
 pub render-spec : {M : Type 1} → statement M
 render-spec =

@@ -1,7 +1,7 @@
 -- `files::value::put_bandwidth` meets its contract. Assumes nothing.
 use native.Mathlib.Omega.{arith}
 use borrow.Author.Needs.{needs}
-use Rattle.text.proofs.WriteLaws.{wrote-then, wrote-as}
+use Rattle.text.proofs.WriteLaws.{appended-then, appended-as}
 use Rattle.files.proofs.ValueTextLaws.{bandwidth-words, length-bandwidth}
 use Rattle.files.proofs.value.put_bandwidth.Statement.{statement}
 use Rattle.files.proofs.value.put_bandwidth.Tie as tie
@@ -47,8 +47,8 @@ returns c =
     let b = n .before .before .before .before in
     let l = b .before .before .before .before in
     let s = l .before .before .before in
-    wrote-as (bandwidth-words (s .args .quota) (s .args .period))
-    (wrote-then (l .put-limit .ensures) (wrote-then (b .put-byte .ensures) (n .put-line .ensures)))
+    appended-as (bandwidth-words (s .args .quota) (s .args .period))
+    (appended-then (l .put-limit .ensures) (appended-then (b .put-byte .ensures) (n .put-line .ensures)))
 
 pub put-bandwidth-spec : {M : Type 1} → statement M
 put-bandwidth-spec =

@@ -1,7 +1,7 @@
 -- `files::value::put_current` meets its contract. Assumes nothing.
 use native.Mathlib.Omega.{arith}
 use borrow.Author.Needs.{needs}
-use Rattle.text.proofs.WriteLaws.{wrote-as}
+use Rattle.text.proofs.WriteLaws.{appended-as}
 use Rattle.files.proofs.ValueTextLaws.{figure-fits, length-figure, current-text}
 use Rattle.files.proofs.value.put_current.Statement.{statement}
 use Rattle.files.proofs.value.put_current.Tie as tie
@@ -34,7 +34,7 @@ returns c =
     let f = w .before .before in
     let u = f .before in
     let s = u .before .before in
-    wrote-as
+    appended-as
     (current-text _ _ (s .args .s) _ _ (u .count .ensures) (f .to-figure .ensures))
     (w .put-line .ensures)
 

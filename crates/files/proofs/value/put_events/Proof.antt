@@ -1,6 +1,6 @@
 -- `files::value::put_events` meets its contract. Assumes nothing.
 use borrow.Author.Needs.{needs}
-use Rattle.text.proofs.WriteLaws.{wrote-as}
+use Rattle.text.proofs.WriteLaws.{appended-as}
 use Rattle.files.proofs.ValueTextLaws.{events-none, events-some}
 use Rattle.files.proofs.value.put_events.Statement.{statement}
 use Rattle.files.proofs.value.put_events.Tie as tie
@@ -22,7 +22,7 @@ returns : tie.Need-returns
 returns c =
     let w = c .before .before in
     let i = w .before .before .before in
-    wrote-as (events-none _ _ _ (i .before .count .ensures) (i .if1 .taken)) (w .put-text .ensures)
+    appended-as (events-none _ _ _ (i .before .count .ensures) (i .if1 .taken)) (w .put-text .ensures)
 
 slice-aggregate-put-text-2 : tie.Need-slice-aggregate-put-text-2
 slice-aggregate-put-text-2 c = search needs
@@ -38,7 +38,7 @@ returns-2 : tie.Need-returns-2
 returns-2 c =
     let w = c .before .before in
     let i = w .before .before .before in
-    wrote-as (events-some _ _ _ (i .before .count .ensures) (i .if1 .left)) (w .put-text2 .ensures)
+    appended-as (events-some _ _ _ (i .before .count .ensures) (i .if1 .left)) (w .put-text2 .ensures)
 
 pub put-events-spec : {M : Type 1} → statement M
 put-events-spec =

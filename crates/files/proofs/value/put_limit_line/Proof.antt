@@ -2,7 +2,7 @@
 use native.Mathlib.Omega.{arith}
 use borrow.Author.Needs.{needs}
 use Rattle.model.specs.Settings.{limitText}
-use Rattle.text.proofs.WriteLaws.{wrote-then}
+use Rattle.text.proofs.WriteLaws.{appended-then}
 use Rattle.files.proofs.ValueTextLaws.{length-ended}
 use Rattle.files.proofs.value.put_limit_line.Statement.{statement}
 use Rattle.files.proofs.value.put_limit_line.Tie as tie
@@ -25,7 +25,7 @@ returns : tie.Need-returns
 returns c =
     let b = c .before .before in
     let l = b .before .before .before .before in
-    wrote-then (l .put-limit .ensures) (b .put-byte .ensures)
+    appended-then (l .put-limit .ensures) (b .put-byte .ensures)
 
 pub put-limit-line-spec : {M : Type 1} → statement M
 put-limit-line-spec = tie.close (tie.spec put-limit-requires put-byte-requires same-length returns)

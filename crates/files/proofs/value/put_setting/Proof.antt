@@ -10,7 +10,7 @@ use Rattle.model.specs.Files.{contents}
 use Rattle.model.specs.declared.Setting.{Setting}
 use Rattle.model.specs.declared.Setting.the-variants.{CpuMax, Max}
 use Rattle.model.specs.declared.File.the-variants.{Value}
-use Rattle.text.proofs.WriteLaws.{wrote-as}
+use Rattle.text.proofs.WriteLaws.{appended-as}
 use Rattle.tree.specs.Layout.{view}
 use Rattle.files.proofs.ValueTextLaws.{length-setting, limit-range, weight-text, length-weight, bandwidth-text, limit-text}
 use Rattle.files.proofs.value.put_setting.Statement.{statement}
@@ -94,7 +94,7 @@ returns c =
     let w = c .before .before in
     let m = w .before .before .before in
     let s = m .before .before .before in
-    wrote-as
+    appended-as
     (weight-text _ _ (s .pre .group) _ (w .before .weight .ensures) ∙ shows s (sym (m .enum-told .given .1)))
     (w .put-line .ensures)
 
@@ -107,7 +107,7 @@ returns-2 c =
     let w = c .before .before in
     let m = w .before .before .before .before in
     let s = m .before .before .before in
-    wrote-as
+    appended-as
     (bandwidth-text _ _ (s .pre .group) _ _ (w .before .before .quota .ensures) (w .before .period .ensures)
     ∙ shows s (sym (m .enum-told2 .given .1)))
     (w .put-bandwidth .ensures)
@@ -122,7 +122,7 @@ returns-3 c =
     let l = w .before .before in
     let m = l .before .before .before in
     let s = m .before .before .before in
-    wrote-as
+    appended-as
     (limit-text _ _ (s .pre .group) _ _ _ (l .limit .ensures) (w .before .shown-limit .ensures)
     ∙ shows s (sym (m .s .given .1)))
     (w .put-limit-line .ensures)

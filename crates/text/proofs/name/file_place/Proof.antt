@@ -11,7 +11,7 @@ use Rattle.model.specs.Names.{settingName, fileName, files}
 use Rattle.model.specs.declared.Setting.the-variants.{CpuWeight}
 use Rattle.model.specs.declared.File.the-variants.{Value}
 use Rattle.text.specs.Name.{fileAt}
-use Rattle.text.proofs.NameLaws.{Tried, tried-none, tried-next, tried-found, tried-all, Entry, entry, startsFrom}
+use Rattle.text.proofs.NameLaws.{Tried, tried-none, tried-next, tried-found, tried-all, NameAt, name-at, startsFrom}
 use Rattle.text.proofs.name.file_place.Statement.{statement}
 use Rattle.text.proofs.name.file_place.Tie as tie
 
@@ -22,8 +22,8 @@ abbrev μ-loop : tie.MeasureT-loop
 μ-loop file names starts i₀ i = length files - i
 
 -- the code's text and the places in it are those of the files' names
-file-entry : (i : ℕ) → i < length files → Entry (joined (map fileName files)) (startsFrom 0 (map fileName files)) (fileName (fileAt i)) i (i + 1)
-file-entry i l = rw (← List·getD-map fileName files i (Value CpuWeight)) (entry (map fileName files) i (settingName CpuWeight) l)
+file-name-at : (i : ℕ) → i < length files → NameAt (joined (map fileName files)) (startsFrom 0 (map fileName files)) (fileName (fileAt i)) i (i + 1)
+file-name-at i l = rw (← List·getD-map fileName files i (Value CpuWeight)) (name-at (map fileName files) i (settingName CpuWeight) l)
 
 slice-aggregate-names : tie.Need-slice-aggregate-names Inv-loop μ-loop
 slice-aggregate-names c = search needs
@@ -48,15 +48,15 @@ array-read-e c = omega arith
 
 sub-is-same : tie.Need-sub-is-same Inv-loop μ-loop
 unfolding joined
-sub-is-same c = file-entry (c .before .loop .i) (omega arith) .from
+sub-is-same c = file-name-at (c .before .loop .i) (omega arith) .from
 
 part-is-same-start : tie.Need-part-is-same-start Inv-loop μ-loop
 unfolding joined
-part-is-same-start c = file-entry (c .before .loop .i) (omega arith) .from
+part-is-same-start c = file-name-at (c .before .loop .i) (omega arith) .from
 
 part-is-same-end : tie.Need-part-is-same-end Inv-loop μ-loop
 unfolding joined
-part-is-same-end c = file-entry (c .before .loop .i) (omega arith) .to
+part-is-same-end c = file-name-at (c .before .loop .i) (omega arith) .to
 
 is-same-requires : tie.Need-is-same-requires Inv-loop μ-loop
 is-same-requires c κs = search needs
@@ -67,7 +67,7 @@ returns c =
     let l = c .before .before .before .before in
     let w = l .before .before .before .args .file .now in
     tried-found (l .loop .inv .1) (Value CpuWeight) (omega arith)
-    (c .before .is-same .ensures ∙ ap (sameBytes w) (file-entry (l .loop .i) (omega arith) .part)) (c .if1 .taken)
+    (c .before .is-same .ensures ∙ ap (sameBytes w) (file-name-at (l .loop .i) (omega arith) .part)) (c .if1 .taken)
 
 loop-less : tie.Need-loop-less Inv-loop μ-loop
 loop-less c = omega arith
@@ -79,7 +79,7 @@ loop-again c =
     let w = l .before .before .before .args .file .now in (
       omega arith,
       tried-next (l .loop .inv .1) (Value CpuWeight) (omega arith)
-          (c .before .is-same .ensures ∙ ap (sameBytes w) (file-entry (l .loop .i) (omega arith) .part)) (c .if1 .left),
+          (c .before .is-same .ensures ∙ ap (sameBytes w) (file-name-at (l .loop .i) (omega arith) .part)) (c .if1 .left),
     )
 
 returns-2 : tie.Need-returns-2 Inv-loop μ-loop

@@ -8,7 +8,7 @@ use borrow.Fn.Kinds.{In}
 use borrow.Fn.PlainCycle.{Measures, is, falls, and}
 use Rattle.model.specs.Text.{decimal}
 use Rattle.text.proofs.DecimalLaws.{decimal-digit, decimal-more, length-decimal-digit, length-decimal-more}
-use Rattle.text.proofs.WriteLaws.{wrote-then, wrote-as}
+use Rattle.text.proofs.WriteLaws.{appended-then, appended-as}
 use Rattle.text.proofs.write.+put_number.{statement}
 use Rattle.text.proofs.write.+put_number.Lts-put_number as lts
 use Rattle.text.proofs.write.digit.Reads as digit-reads
@@ -56,7 +56,7 @@ module _ (t : ℕ) where
       let b = c .before .before in
       let d = b .before in
       let n = d .before .before .before .before .args .n in
-      wrote-as (ap (λ (x : ℕ). x ∷ []) (d .digit .ensures) ∙ sym (decimal-digit n (d .before .before .if1 .taken)))
+      appended-as (ap (λ (x : ℕ). x ∷ []) (d .digit .ensures) ∙ sym (decimal-digit n (d .before .before .if1 .taken)))
       (b .put-byte .ensures)
 
   -- the digits before the last, and the last
@@ -85,9 +85,9 @@ module _ (t : ℕ) where
       let p = b .before .before .before .before .before in
       let e = p .before .before in
       let n = e .before .before .args .n in
-      wrote-as
+      appended-as
       (ap (λ (x : ℕ). decimal (n / 10) ++ (x ∷ [])) (b .before .digit2 .ensures) ∙ sym (decimal-more n (e .if1 .left)))
-      (wrote-then (p .put-number .ensures) (b .put-byte2 .ensures))
+      (appended-then (p .put-number .ensures) (b .put-byte2 .ensures))
 
 pub +put-number-spec : {M : Type 1} → statement M
 +put-number-spec =

@@ -1,6 +1,6 @@
 -- `text::write::put_byte` meets its contract: one byte is set. Assumes nothing.
 use borrow.Author.Needs.{needs}
-use Rattle.text.proofs.WriteLaws.{wrote-byte}
+use Rattle.text.proofs.WriteLaws.{appended-byte}
 use Rattle.text.proofs.write.put_byte.Statement.{statement}
 use Rattle.text.proofs.write.put_byte.Tie as tie
 
@@ -14,7 +14,7 @@ same-length : tie.Need-same-length
 same-length c = search needs
 
 returns : tie.Need-returns
-returns c = wrote-byte (c .args .out .now) (c .args .at) (c .args .b) (c .pre)
+returns c = appended-byte (c .args .out .now) (c .args .at) (c .args .b) (c .pre)
 
 pub put-byte-spec : {M : Type 1} → statement M
 put-byte-spec = tie.close (tie.spec slice-write-out add-result same-length returns)

@@ -5,7 +5,7 @@ use lib.ListN.{length}
 use borrow.Author.Needs.{needs}
 use Rattle.model.specs.Settings.{limitText}
 use Rattle.model.specs.declared.Limit.{Limit}
-use Rattle.text.proofs.WriteLaws.{wrote-as}
+use Rattle.text.proofs.WriteLaws.{appended-as}
 use Rattle.text.proofs.write.put_limit.Statement.{statement}
 use Rattle.text.proofs.write.put_limit.Tie as tie
 
@@ -29,7 +29,7 @@ same-length c = search needs
 returns : tie.Need-returns
 returns c =
     let p = c .before .before in
-    wrote-as (ap limitText (sym (p .before .before .before .enum-told .given .1))) (p .put-text .ensures)
+    appended-as (ap limitText (sym (p .before .before .before .enum-told .given .1))) (p .put-text .ensures)
 
 put-number-requires : tie.Need-put-number-requires
 put-number-requires c κs = omega (arith, ap (λ (l : Limit). length (limitText l)) (c .before .before .limit .given .1))
@@ -41,7 +41,7 @@ same-length-2 c = search needs
 returns-2 : tie.Need-returns-2
 returns-2 c =
     let p = c .before .before in
-    wrote-as (ap limitText (sym (p .before .before .before .limit .given .1))) (p .put-number .ensures)
+    appended-as (ap limitText (sym (p .before .before .before .limit .given .1))) (p .put-number .ensures)
 
 pub put-limit-spec : {M : Type 1} → statement M
 put-limit-spec =

@@ -1,6 +1,6 @@
 -- `text::write::put_text` meets its contract: what is copied is written. Assumes nothing.
 use borrow.Author.Needs.{needs}
-use Rattle.text.proofs.WriteLaws.{copied-wrote}
+use Rattle.text.proofs.WriteLaws.{copied-appended}
 use Rattle.text.proofs.write.put_text.Statement.{statement}
 use Rattle.text.proofs.write.put_text.Tie as tie
 
@@ -13,7 +13,7 @@ same-length c = search needs
 returns : tie.Need-returns
 returns c =
     let k = c .before .before in
-    copied-wrote (k .before .before .before .before .pre) (k .copy .ensures)
+    copied-appended (k .before .before .before .before .pre) (k .copy .ensures)
 
 pub put-text-spec : {M : Type 1} → statement M
 put-text-spec = tie.close (tie.spec copy-requires same-length returns)
