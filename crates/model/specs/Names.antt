@@ -32,13 +32,16 @@ settingName CpuMax = bytes "cpu.max"
 settingName (Max Pages) = bytes "memory.max"
 settingName (Max Processes) = bytes "pids.max"
 
--- the files of "What a reader sees" that are no settings
-abbrev pub otherFiles : List File
-otherFiles = Procs ∷ Controllers ∷ SubtreeControl ∷ Events ∷ Current Pages ∷ Current Processes ∷ []
+-- the files of "What a reader sees" that are no settings: a group's own, and its controllers'
+abbrev pub coreFiles : List File
+coreFiles = Procs ∷ Controllers ∷ SubtreeControl ∷ Events ∷ []
 
--- all of them: no two have the same name, so their order decides nothing
+abbrev pub controllerFiles : List File
+controllerFiles = Current Pages ∷ Current Processes ∷ []
+
+-- all files: no two have the same name, so their order decides nothing
 abbrev pub files : List File
-files = map Value settings ++ otherFiles
+files = map Value settings ++ (coreFiles ++ controllerFiles)
 
 abbrev pub fileName : File → List ℕ
 fileName Procs = bytes "cgroup.procs"

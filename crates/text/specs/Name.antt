@@ -6,7 +6,7 @@ use mathlib.Core.Option.{Option, none, some}
 use lib.ListN.{getD}
 use Rattle.model.specs.Functions.{pick}
 use Rattle.model.specs.Text.{sameBytes}
-use Rattle.model.specs.Names.{controllers, settings, otherFiles, files}
+use Rattle.model.specs.Names.{controllers, settings, coreFiles, controllerFiles, files}
 use Rattle.model.specs.declared.Controller.{Controller}
 use Rattle.model.specs.declared.Controller.the-variants.{Cpu}
 use Rattle.model.specs.declared.Setting.{Setting}
@@ -28,8 +28,11 @@ controllerAt i = getD controllers i Cpu
 abbrev pub settingAt : ℕ → Setting
 settingAt i = getD settings i CpuWeight
 
-abbrev pub otherFileAt : ℕ → File
-otherFileAt i = getD otherFiles i (Value CpuWeight)
+abbrev pub coreFileAt : ℕ → File
+coreFileAt i = getD coreFiles i (Value CpuWeight)
+
+abbrev pub controllerFileAt : ℕ → File
+controllerFileAt i = getD controllerFiles i (Value CpuWeight)
 
 abbrev pub fileAt : ℕ → File
 fileAt i = getD files i (Value CpuWeight)

@@ -1,17 +1,27 @@
--- `text::name::file_at` meets its contract: the settings are the first of the files. Assumes nothing.
-use Prim.Native.Nat.{_+_, _-_}
-use mathlib.Core.List.{map}
+-- `text::name::file_at` meets its contract: the list of files is three lists, one after another. Assumes nothing.
+use Prim.Native.Nat.{ℕ, _+_, _-_, _≤_}
+use mathlib.Core.List.{_++_, map}
 use mathlib.Core.Path.{_≡_, ap, sym, _∙_}
 use native.Mathlib.Omega.{arith}
-use lib.ListN.{length, List·getD-append, List·getD-map}
+use lib.ListN.{length, getD, List·getD-append, List·getD-map}
 use lib.Seq.{getD-append-add}
 use borrow.Author.Needs.{needs}
-use Rattle.model.specs.Names.{settings, otherFiles}
+use Rattle.model.specs.Names.{settings, coreFiles, controllerFiles}
+use Rattle.model.specs.declared.File.{File}
 use Rattle.model.specs.declared.File.the-variants.{Value}
 use Rattle.model.specs.declared.Setting.the-variants.{CpuWeight}
 use Rattle.text.specs.Name.{fileAt}
 use Rattle.text.proofs.name.file_at.Statement.{statement}
 use Rattle.text.proofs.name.file_at.Tie as tie
+
+-- what stands beyond every list
+abbrev first : File
+first = Value CpuWeight
+
+after-settings : (i : ℕ) → length settings ≤ i → getD (coreFiles ++ controllerFiles) (i - length settings) first ≡ fileAt i
+after-settings i l =
+    let e : length (map Value settings) + (i - length settings) ≡ i = omega arith in
+    sym (getD-append-add (map Value settings) (coreFiles ++ controllerFiles) (i - length settings) first) ∙ ap fileAt e
 
 setting-at-requires : tie.Need-setting-at-requires
 setting-at-requires c κs = search needs
@@ -21,17 +31,40 @@ returns : tie.Need-returns
 returns c =
     let i = c .before .before .args .i in
     ap Value (c .setting-at .ensures)
-    ∙ sym (List·getD-append (map Value settings) otherFiles (Value CpuWeight) i (omega arith) ∙ List·getD-map Value settings i CpuWeight)
+    ∙ sym (List·getD-append (map Value settings) (coreFiles ++ controllerFiles) first i (omega arith) ∙ List·getD-map Value settings i CpuWeight)
 
-other-file-at-requires : tie.Need-other-file-at-requires
-other-file-at-requires c κs = search needs
+core-file-at-requires : tie.Need-core-file-at-requires
+core-file-at-requires c κs = search needs
 
--- another file
+-- a file of the group's own
 returns-2 : tie.Need-returns-2
 returns-2 c =
-    let i = c .before .before .args .i in
-    let e : length (map Value settings) + (i - length settings) ≡ i = omega arith in
-    c .other-file-at .ensures ∙ sym (getD-append-add (map Value settings) otherFiles (i - length settings) (Value CpuWeight)) ∙ ap fileAt e
+    let i = c .before .before .before .args .i in
+    c .core-file-at .ensures
+    ∙ sym (List·getD-append coreFiles controllerFiles first (i - length settings) (omega arith))
+    ∙ after-settings i (omega arith)
+
+controller-file-at-requires : tie.Need-controller-file-at-requires
+controller-file-at-requires c κs = search needs
+
+-- a controller's
+returns-3 : tie.Need-returns-3
+returns-3 c =
+    let i = c .before .before .before .args .i in
+    let k = i - length settings in
+    let e : length coreFiles + (k - length coreFiles) ≡ k = omega arith in
+    c .controller-file-at .ensures
+    ∙ sym (getD-append-add coreFiles controllerFiles (k - length coreFiles) first)
+    ∙ ap (λ (n : ℕ). getD (coreFiles ++ controllerFiles) n first) e
+    ∙ after-settings i (omega arith)
 
 pub file-at-spec : {M : Type 1} → statement M
-file-at-spec = tie.close (tie.spec setting-at-requires returns other-file-at-requires returns-2)
+file-at-spec =
+    tie.close
+    (tie.spec
+    setting-at-requires
+    returns
+    core-file-at-requires
+    returns-2
+    controller-file-at-requires
+    returns-3)

@@ -1,9 +1,10 @@
 -- `text::name::setting_named` meets its contract: the settings are the first of the files. Assumes nothing.
+use mathlib.Core.List.{_++_}
 use mathlib.Core.Option.{some}
 use mathlib.Core.Path.{ap, sym, _∙_}
 use native.Mathlib.Omega.{arith}
 use borrow.Author.Needs.{needs}
-use Rattle.model.specs.Names.{settings, otherFiles, fileName}
+use Rattle.model.specs.Names.{settings, coreFiles, controllerFiles, fileName}
 use Rattle.model.specs.declared.Setting.the-variants.{CpuWeight}
 use Rattle.model.specs.declared.File.the-variants.{Value}
 use Rattle.text.specs.Name.{asSettingName}
@@ -18,7 +19,7 @@ file-place-requires c κs = search needs
 returns : tie.Need-returns
 returns c =
     let p = c .before in
-    ap asSettingName (sym (front-none Value fileName (p .before .before .args .file .now) otherFiles settings (p .file-place .ensures) (omega arith)))
+    ap asSettingName (sym (front-none Value fileName (p .before .before .args .file .now) (coreFiles ++ controllerFiles) settings (p .file-place .ensures) (omega arith)))
 
 setting-at-requires : tie.Need-setting-at-requires
 setting-at-requires c κs = search needs
@@ -29,7 +30,7 @@ returns-2 c =
     let p = c .before .before in
     ap asSettingName
     (ap some (c .setting-at .ensures)
-    ∙ sym (front-at Value fileName (p .before .before .args .file .now) otherFiles settings (p .file-place .ensures) CpuWeight (omega arith)))
+    ∙ sym (front-at Value fileName (p .before .before .args .file .now) (coreFiles ++ controllerFiles) settings (p .file-place .ensures) CpuWeight (omega arith)))
 
 pub setting-named-spec : {M : Type 1} → statement M
 setting-named-spec = tie.close (tie.spec file-place-requires returns setting-at-requires returns-2)
