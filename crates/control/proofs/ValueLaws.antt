@@ -7,7 +7,7 @@ use mathlib.Core.Option.{some}
 use mathlib.Core.Path.{_≡_, refl}
 use Rattle.model.specs.Functions.{All}
 use Rattle.model.specs.Tree.{Group, CpuSettings, withLimit, withSettings}
-use Rattle.model.specs.Settings.{figureIn, quotaIn, largest, inRange, toAmount, mapLimit, put, shown}
+use Rattle.model.specs.Settings.{figureIn, quotaIn, largest, inRange, toAmount, mapLimit, assign, shown}
 use Rattle.model.specs.Effects.{written}
 use Rattle.model.specs.declared.Resource.{Resource}
 use Rattle.model.specs.declared.Resource.the-variants.{Pages, Processes}
@@ -64,26 +64,26 @@ module _ (xs : List ℕ) (g : ℕ) (value : SettingValue) (k : Settable xs g val
 -- ---- what the stores make of a group
 
 -- cpu.weight and cpu.max
-abbrev cpu-put : Group → ℕ → Limit → ℕ → Group
-cpu-put v n q p = withSettings (record { limit = v .core .limit; cpu = record { weight = n; quota = q; period = p } }) v
+abbrev cpu-assigned : Group → ℕ → Limit → ℕ → Group
+cpu-assigned v n q p = withSettings (record { limit = v .core .limit; cpu = record { weight = n; quota = q; period = p } }) v
 
 module _ (v : Group) (value : SettingValue) where
   pub weight-written : (n : ℕ) (q : Limit) (p : ℕ) → value ≡ Weight n → q ≡ v .cpu .quota → p ≡ v .cpu .period
-      → cpu-put v n q p ≡ written (some value) v
-  unfolding put
+      → cpu-assigned v n q p ≡ written (some value) v
+  unfolding assign
   weight-written n q p e f h = rw (e, f, h)
 
   pub quota-written : (n : ℕ) (q : Limit) (p : ℕ) → value ≡ Quota q → n ≡ v .cpu .weight → p ≡ v .cpu .period
-      → cpu-put v n q p ≡ written (some value) v
-  unfolding put
+      → cpu-assigned v n q p ≡ written (some value) v
+  unfolding assign
   quota-written n q p e f h = rw (e, f, h)
 
   pub bandwidth-written : (n : ℕ) (q : Limit) (p : ℕ) → value ≡ Bandwidth q p → n ≡ v .cpu .weight
-      → cpu-put v n q p ≡ written (some value) v
-  unfolding put
+      → cpu-assigned v n q p ≡ written (some value) v
+  unfolding assign
   bandwidth-written n q p e f = rw (e, f)
 
   pub limit-written : (r : Resource) (l m : Limit) → value ≡ Maximum r l → m ≡ mapLimit (toAmount r) l
       → withSettings (record { limit = withLimit r m (v .core .limit); cpu = v .cpu }) v ≡ written (some value) v
-  unfolding put
+  unfolding assign
   limit-written r l m e f = rw (e, f)

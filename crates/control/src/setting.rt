@@ -22,7 +22,7 @@ use text::name::SettingName;
 use text::name::setting_named;
 use text::range::is_in_range;
 use text::value::LineValue;
-use text::value::read_value;
+use text::value::parse_value;
 use tree::group::is_live;
 use tree::group::parent;
 use tree::layout::GROUPS;
@@ -49,7 +49,7 @@ fn vet_value(setting: Setting, line: &[u8]) -> Given
     if is_too_long(line) {
         return Given::Refused(Errno::Einval);
     }
-    let read = read_value(setting, line);
+    let read = parse_value(setting, line);
     match read {
         LineValue::Malformed => Given::Refused(Errno::Einval),
         LineValue::Of(value) => {

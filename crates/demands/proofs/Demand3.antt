@@ -28,7 +28,7 @@ use Rattle.model.proofs.Demands.{demands}
 use Rattle.tree.specs.Layout.{view}
 use Rattle.tree.specs.Kept.{Fresh}
 use Rattle.demands.specs.Runs.{callsOf, Followed}
-use Rattle.demands.specs.Texts.{Delivered}
+use Rattle.demands.specs.Texts.{FindsText}
 use Rattle.demands.specs.Demand3.{Kept3, Demand3}
 use Rattle.demands.proofs.Runs.{log-more, followed}
 use Rattle.demands.proofs.Texts.{delivered-file}
@@ -88,7 +88,7 @@ module _ {xs ys : List ℕ} {es : List Entry} (b : Book) (f : Followed xs es ys)
         kept = f .kept;
         alike = alike;
         shows = λ {buffer} {told} {bytes} r g a z t.
-            subst (λ (x : List ℕ). Delivered x buffer told bytes) (current-text r g) (delivered-file g (fileName (Current r)) a z t);
+            subst (λ (x : List ℕ). FindsText x buffer told bytes) (current-text r g) (delivered-file g (fileName (Current r)) a z t);
         bounded = subst Bounded book (d .bounded);
         mark =
             subst (λ (x : Book). (g l : ℕ) → x .group g .limit Pages ≡ Figure l → MarkIs (view xs) (callsOf es) g l (x .mark g)) book (d .mark);

@@ -12,7 +12,7 @@ use Rattle.model.specs.declared.Answer.the-variants.{Refused}
 use Rattle.tree.specs.Layout.{view}
 use Rattle.tree.specs.Calling.{Answered}
 use Rattle.shootspiral.specs.Interface.{Told}
-use Rattle.demands.specs.Texts.{Undelivered}
+use Rattle.demands.specs.Texts.{FindsNone}
 
 -- the number is that of the rule which refused, and the words are the very same
 pub record TurnedAway (xs ys : List ℕ) (c : Call) (n : ℕ) : Type 0 where
@@ -24,4 +24,4 @@ pub record TurnedAway (xs ys : List ℕ) (c : Call) (n : ℕ) : Type 0 where
 pub record Demand1 : Type 0 where
   pub away : {xs ys : List ℕ} {c : Call} {n : ℕ} → Answered xs ys c n → n ≢ 0 → TurnedAway xs ys c n
   pub text : {xs ys : List ℕ} {c : Call} {n : ℕ} {told bytes : List ℕ} → Answered xs ys c n → Told (reply (view xs) c) told bytes
-      → n ≢ 0 → Undelivered c told bytes
+      → n ≢ 0 → FindsNone c told bytes

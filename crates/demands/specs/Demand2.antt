@@ -34,7 +34,7 @@ use Rattle.tree.specs.Calling.{Answered}
 use Rattle.text.specs.Control.{IsPart}
 use Rattle.shootspiral.specs.Interface.{groupWord, roomWords, partWords, Told}
 use Rattle.demands.specs.Runs.{Runs, Along}
-use Rattle.demands.specs.Texts.{Delivered}
+use Rattle.demands.specs.Texts.{FindsText}
 
 -- "Calls are turned away exactly when a listed rule .. says so, and otherwise do exactly what the rule says."
 pub record Exactly (xs ys : List ℕ) (c : Call) (n : ℕ) : Type 0 where
@@ -78,9 +78,9 @@ pub record Demand2 : Type 0 where
   pub part : {r s : RefT (List ℕ)} → IsPart r s (firstBadWord (now s)) → (p : Part) × BadPart r s p
   -- the text of a file that is there, and of a membership line
   pub shown : {xs ys buffer told bytes : List ℕ} {n : ℕ} (g : ℕ) (file : List ℕ) → Answered xs ys (read g file buffer) n → n ≡ 0
-      → Told (reply (view xs) (read g file buffer)) told bytes → Delivered (fileText (factsOf (view xs)) g file) buffer told bytes
+      → Told (reply (view xs) (read g file buffer)) told bytes → FindsText (fileText (factsOf (view xs)) g file) buffer told bytes
   pub standing : {xs ys buffer told bytes : List ℕ} {n : ℕ} (p : ℕ) → Answered xs ys (membership p buffer) n → n ≡ 0
-      → Told (reply (view xs) (membership p buffer)) told bytes → Delivered (membershipLine (view xs) p) buffer told bytes
+      → Told (reply (view xs) (membership p buffer)) told bytes → FindsText (membershipLine (view xs) p) buffer told bytes
   -- "What a settings file shows can be written back by whoever may write it, and changes nothing": the first k bytes of what a
   -- read delivered, on the words that it read
   pub back : {xs : List ℕ} {n k : ℕ} {buffer bytes : List ℕ} (user g : ℕ) (s : Setting) → Kept xs

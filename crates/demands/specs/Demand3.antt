@@ -21,7 +21,7 @@ use Rattle.tree.specs.Kept.{Kept, Fresh}
 use Rattle.tree.specs.Calling.{Answered}
 use Rattle.shootspiral.specs.Interface.{Told}
 use Rattle.demands.specs.Runs.{Runs, callsOf, Followed}
-use Rattle.demands.specs.Texts.{Delivered}
+use Rattle.demands.specs.Texts.{FindsText}
 
 -- The words xs and the book b before the run, its calls with the numbers answered, the words ys after it. They keep the invariant and
 -- stand alike with the book, and a read of memory.current or pids.current delivers the book's figure. Every mark is the usage at the
@@ -31,7 +31,7 @@ pub record Kept3 (xs : List ℕ) (b : Book) (es : List Entry) (ys : List ℕ) : 
   pub alike : Alike (view ys) (fed b es)
   pub shows : {buffer told bytes : List ℕ} {n : ℕ} (r : Resource) (g : ℕ) → Answered ys ys (read g (fileName (Current r)) buffer) n → n ≡ 0
       → Told (reply (view ys) (read g (fileName (Current r)) buffer)) told bytes
-      → Delivered (ended (decimal (toFigure r (inBook (fed b es) r g)))) buffer told bytes
+      → FindsText (ended (decimal (toFigure r (inBook (fed b es) r g)))) buffer told bytes
   pub bounded : Bounded (fed b es)
   pub mark : (g l : ℕ) → fed b es .group g .limit Pages ≡ Figure l → MarkIs (view xs) (callsOf es) g l (fed b es .mark g)
   pub accepted : (r : Resource) (p : ℕ) (c : Call) (before after : List Entry) → Adds r p c

@@ -7,11 +7,11 @@ use Rattle.model.specs.Calls.{Call}
 use Rattle.model.specs.Replies.{bufferOf}
 
 -- "The text goes to the front and its length is told; bytes after it stay."
-pub record Delivered (text old told new : List ℕ) : Type 0 where
+pub record FindsText (text old told new : List ℕ) : Type 0 where
   pub size : told ≡ length text ∷ []
   pub bytes : new ≡ text ++ drop (length text) old
 
 -- a refusal tells the length 0 and leaves every byte of the buffer
-pub record Undelivered (c : Call) (told new : List ℕ) : Type 0 where
+pub record FindsNone (c : Call) (told new : List ℕ) : Type 0 where
   pub size : told ≡ 0 ∷ []
   pub bytes : new ≡ bufferOf c

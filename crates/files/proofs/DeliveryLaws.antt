@@ -1,5 +1,5 @@
 -- How the promise of a call that delivers a text is met: by a refusal, which leaves the reply as it is, or by the delivery
--- of the text. Assumes nothing.
+-- of the text; of files, cgroup.procs apart from the others. Assumes nothing.
 use Prim.Native.Nat.{ℕ, _≤_, _<_}
 use native.Mathlib.Omega.{arith}
 use mathlib.Core.Bool.{Bool, true, false}
@@ -55,8 +55,8 @@ last-check text old = go (fits text old)
     go false = refl
 
 -- a text that was made at the front of an array, and delivered from there
-pub delivered-text : {a b text old new : List ℕ} {k : ℕ} {r : ReadAnswer} → Appended a 0 text b k → Delivers (take k b) old r new → Delivers text old r new
-delivered-text w d = rw (w .front) at d
+pub delivers-text : {a b text old new : List ℕ} {k : ℕ} {r : ReadAnswer} → Appended a 0 text b k → Delivers (take k b) old r new → Delivers text old r new
+delivers-text w d = rw (w .front) at d
 
 -- ---- cgroup.procs and the other files
 
@@ -64,9 +64,12 @@ pub delivers-procs : (xs : List ℕ) (g : ℕ) (f : File) {old new : List ℕ} {
     → DeliversFile xs g File.Procs old r new → DeliversFile xs g f old r new
 delivers-procs xs g f {old} {new} {r} e d = subst (λ (x : File). DeliversFile xs g x old r new) (sym e) d
 
--- by the numbers of the variants
-pub not-procs : (f : File) → OneOf (1 ∷ 2 ∷ 3 ∷ 4 ∷ 5 ∷ []) (tagOf the-type f) → f ≢ File.Procs
-not-procs f k e = miss (1 ∷ 2 ∷ 3 ∷ 4 ∷ 5 ∷ []) 0 tt (subst (λ (x : File). OneOf (1 ∷ 2 ∷ 3 ∷ 4 ∷ 5 ∷ []) (tagOf the-type x)) e k)
+-- the numbers of the other variants
+abbrev pub others : List ℕ
+others = 1 ∷ 2 ∷ 3 ∷ 4 ∷ 5 ∷ []
+
+pub not-procs : (f : File) → OneOf others (tagOf the-type f) → f ≢ File.Procs
+not-procs f k e = miss others 0 tt (subst (λ (x : File). OneOf others (tagOf the-type x)) e k)
 
 -- ---- read
 

@@ -55,8 +55,8 @@ module _ (t : Tree) (w : WellFormed t) (g : ℕ) where
   pub figure-fits : (r : Resource) (n : ℕ) → n ≡ countIn t (Of r) g → toFigure r n < 2 ^ 64
   figure-fits r n e = omega (arith, figure-small r n (omega (arith, count-small t w (Of r) g)))
 
-  pub length-figure : (r : Resource) (n f : ℕ) → n ≡ countIn t (Of r) g → f ≡ toFigure r n → length (decimal f) ≤ 16
-  length-figure r n f e q =
+  pub length-count : (r : Resource) (n f : ℕ) → n ≡ countIn t (Of r) g → f ≡ toFigure r n → length (decimal f) ≤ 16
+  length-count r n f e q =
       let small = figure-small r n (omega (arith, count-small t w (Of r) g)) in
       length-decimal f 16 (omega (arith, small)) (omega arith)
 

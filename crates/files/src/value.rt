@@ -1,5 +1,5 @@
-// The files that are one value: whether a group is populated, the counts, and the settings. No pass over the tree: the
-// counts are its running sums.
+// The files that are one value: whether a group is populated, the counts, and the settings. No pass over the tree: what is
+// counted stands in the group's row.
 ghost use Prim.Native.Nat.{_≤_};
 ghost use lib.ListN.{length};
 ghost use Rattle.model.specs.Text.{ended};

@@ -18,7 +18,7 @@ use Rattle.model.specs.declared.Answer.the-variants.{Done}
 use Rattle.model.proofs.FunctionLaws.{whether, weigh-yes, weigh-no}
 use Rattle.tree.specs.Layout.{view, sumIn}
 use Rattle.tree.specs.Changes.{Wrote, Cleared, AdjustedAt}
-use Rattle.tree.specs.Kept.{children, countOf, Kept}
+use Rattle.tree.specs.Kept.{children, countIn, Kept}
 use Rattle.tree.specs.Calling.{Applied}
 use Rattle.tree.specs.declared.sum.Counter.{Counter}
 use Rattle.tree.specs.declared.sum.Counter.the-variants.{Of, Children}
@@ -47,7 +47,7 @@ module _ (xs : List ℕ) (k : Kept xs) (c : Call) (v : verdict (view xs) c ≡ D
   after = effect (view xs) c
 
   pub applied-cleared : (zs ys : List ℕ) (p n m : ℕ) → AdjustedAt xs zs Children p n m → Cleared zs ys after g
-      → ((d : Counter) → countOf (cores after) (places after) d g ≡ 0)
+      → ((d : Counter) → countIn after d g ≡ 0)
       → ((a : ℕ) → a ≢ g → sumIn zs Children a ≡ children (cores after) a)
       → ((r : Resource) (a : ℕ) → a ≢ g → amount (cores after) (places after) r a ≡ amount (cores (view xs)) (places (view xs)) r a)
       → Applied xs ys c
@@ -60,7 +60,7 @@ module _ (xs : List ℕ) (k : Kept xs) (c : Call) (v : verdict (view xs) c ≡ D
         spare = q .spare (d .spare (k .spare));
       })
     where
-      rest : (e : Counter) (a : ℕ) → a ≢ g → sumIn zs e a ≡ countOf (cores after) (places after) e a
+      rest : (e : Counter) (a : ℕ) → a ≢ g → sumIn zs e a ≡ countIn after e a
       rest (Of r) a ne = d .other (Of r) (children-apart r) a ∙ k .sums (Of r) a ∙ sym (same r a ne)
       rest Children a ne = above a ne
 

@@ -29,9 +29,9 @@ any-counted (suc n) f h e =
     (λ y. rw (y, any, ne-eqb (h n + sum n h) 0 (λ z. omega (arith, e n, weigh-yes (f n) 1 y))))
     (λ o. let z : h n + sum n h ≡ sum n h = omega (arith, e n, weigh-no (f n) 1 o) in rw (o, any, z) (any-counted n f h e))
 
-pub child-counted : (t : Tree) (g : ℕ) → not (eqb (countIn t Children g) 0) ≡ hasChild t g
+pub hasChild-counted : (t : Tree) (g : ℕ) → not (eqb (countIn t Children g) 0) ≡ hasChild t g
 unfolding hasChild children
-child-counted t g = sym (any-counted groups (λ j. childOf g j (cores t j)) _ (λ j. refl))
+hasChild-counted t g = sym (any-counted groups (λ j. childOf g j (cores t j)) _ (λ j. refl))
 
 -- who is inside a group without live children stands in it
 stands-alone : (t : Tree) → WellFormed t → (g : ℕ) → lives t g ≡ true → NoChild (lives t) (parents t) g → (l : Place)

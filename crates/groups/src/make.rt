@@ -11,7 +11,7 @@ use tree::counter::adjust;
 use tree::group::depth;
 use tree::group::is_live;
 use tree::group::is_taken;
-use tree::group::put_group;
+use tree::group::set_group;
 use tree::layout::DEEPEST;
 use tree::layout::GROUPS;
 use tree::layout::Tree;
@@ -55,6 +55,6 @@ pub fn make(tree: &mut Tree, user: u32, parent: GroupId, new: GroupId) -> Answer
     };
     let deep = depth(tree, parent) + 1;
     adjust(tree, parent, Counter::Children, 1, 0);
-    put_group(tree, new, parent, deep, user);
+    set_group(tree, new, parent, deep, user);
     Answer::Done
 }

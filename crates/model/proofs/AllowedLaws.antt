@@ -9,7 +9,7 @@ use borrow.Author.Tests.{le-leb}
 use Rattle.model.specs.Functions.{All}
 use Rattle.model.specs.Tree.{CpuSettings, Settings, newSettings}
 use Rattle.model.specs.Figures.{figureIn}
-use Rattle.model.specs.Settings.{settingController, largest, inRange, toAmount, toFigure, mapLimit, put, shown, piece, reset, Allowed}
+use Rattle.model.specs.Settings.{settingController, largest, inRange, toAmount, toFigure, mapLimit, assign, shown, piece, reset, Allowed}
 use Rattle.model.specs.declared.Resource.{Resource}
 use Rattle.model.specs.declared.Resource.the-variants.{Pages, Processes}
 use Rattle.model.specs.declared.Limit.{Limit}
@@ -67,25 +67,25 @@ figureIn-rounded r (Figure n) e =
     let m = toFigure r (toAmount r n) in
     rw (le-leb 0 m (omega arith), le-leb m (largest r) (rounded-le r n (between-le 0 (largest r) n e)))
 
-values-after-put : (v : SettingValue) (st : Settings) → InRange v → Allowed st → (s : Setting) → All InRange (shown s (put v st))
-unfolding inRange shown put All
-values-after-put (Weight n) st e h CpuWeight = (e, tt)
-values-after-put (Weight n) st e h CpuMax = h .values CpuMax
-values-after-put (Weight n) st e h (Max r) = h .values (Max r)
-values-after-put (Quota q) st e h CpuWeight = h .values CpuWeight
-values-after-put (Quota q) st e h CpuMax =
+values-after-assign : (v : SettingValue) (st : Settings) → InRange v → Allowed st → (s : Setting) → All InRange (shown s (assign v st))
+unfolding inRange shown assign All
+values-after-assign (Weight n) st e h CpuWeight = (e, tt)
+values-after-assign (Weight n) st e h CpuMax = h .values CpuMax
+values-after-assign (Weight n) st e h (Max r) = h .values (Max r)
+values-after-assign (Quota q) st e h CpuWeight = h .values CpuWeight
+values-after-assign (Quota q) st e h CpuMax =
     (rw e (range-of-period (st .cpu .quota) (st .cpu .period) (h .values CpuMax .0)), tt)
-values-after-put (Quota q) st e h (Max r) = h .values (Max r)
-values-after-put (Bandwidth q p) st e h CpuWeight = h .values CpuWeight
-values-after-put (Bandwidth q p) st e h CpuMax = (e, tt)
-values-after-put (Bandwidth q p) st e h (Max r) = h .values (Max r)
-values-after-put (Maximum r l) st e h CpuWeight = h .values CpuWeight
-values-after-put (Maximum r l) st e h CpuMax = h .values CpuMax
-values-after-put (Maximum r l) st e h (Max x) = (
+values-after-assign (Quota q) st e h (Max r) = h .values (Max r)
+values-after-assign (Bandwidth q p) st e h CpuWeight = h .values CpuWeight
+values-after-assign (Bandwidth q p) st e h CpuMax = (e, tt)
+values-after-assign (Bandwidth q p) st e h (Max r) = h .values (Max r)
+values-after-assign (Maximum r l) st e h CpuWeight = h .values CpuWeight
+values-after-assign (Maximum r l) st e h CpuMax = h .values CpuMax
+values-after-assign (Maximum r l) st e h (Max x) = (
   withLimit-all (λ y m. figureIn 0 (largest y) (mapLimit (toFigure y) m) ≡ true) r _ (st .limit)
       (figureIn-rounded r l e) (λ y. h .values (Max y) .0) x,
   tt,
 )
 
-pub allowed-after-put : (v : SettingValue) (st : Settings) → inRange v ≡ true → Allowed st → Allowed (put v st)
-allowed-after-put v st e h = record { values = values-after-put v st e h }
+pub allowed-after-assign : (v : SettingValue) (st : Settings) → inRange v ≡ true → Allowed st → Allowed (assign v st)
+allowed-after-assign v st e h = record { values = values-after-assign v st e h }

@@ -12,7 +12,7 @@ use Rattle.model.specs.Checks.{errnoNumber, answerNumber, first, Check}
 use Rattle.model.specs.Tree.{Tree, Core, Group, Process, Settings, settingsOf, controllerOf, withLimits, withSettings, noGroup, atGroup, atProcess, cores, parents, sets, settingsAt, places}
 use Rattle.model.specs.Hierarchy.{childOf, usage, factsOf}
 use Rattle.model.specs.Control.{asked, isDropped}
-use Rattle.model.specs.Settings.{put, reset}
+use Rattle.model.specs.Settings.{assign, reset}
 use Rattle.model.specs.Rooms.{Room, room, full, roomFor, isFull, shortage}
 use Rattle.model.specs.Rules.{processGroup, lineProcess, leaving}
 use Rattle.model.specs.Calls.{Call, lineValue, chargeChecks, forkChecks, checks, verdict}
@@ -139,12 +139,12 @@ abbrev entered : Option (Resource × Limit) → (Resource → Limit) → Resourc
 entered none f = f
 entered (some e) f = limitEntered (e .0) (e .1) f
 
-limits-after-put : (v : SettingValue) (st : Settings) → put v st .limit ≡ entered (entryOf v) (st .limit)
-unfolding put
-limits-after-put (Weight n) st = refl
-limits-after-put (Quota q) st = refl
-limits-after-put (Bandwidth q p) st = refl
-limits-after-put (Maximum r l) st = refl
+limits-after-assign : (v : SettingValue) (st : Settings) → assign v st .limit ≡ entered (entryOf v) (st .limit)
+unfolding assign
+limits-after-assign (Weight n) st = refl
+limits-after-assign (Quota q) st = refl
+limits-after-assign (Bandwidth q p) st = refl
+limits-after-assign (Maximum r l) st = refl
 
 module _ (t : Tree) (mark : ℕ → ℕ) (g : ℕ) where
   same-after-entry : (st : Settings) (o : Option (Resource × Limit)) → st .limit ≡ entered o (cores t g .limit)
@@ -164,7 +164,7 @@ module _ (t : Tree) (mark : ℕ → ℕ) (g : ℕ) where
 
   same-after-value : (v : Option SettingValue) → Same (atGroup t g (written v (t .group g))) (enterValue (bookWith t mark) g v)
   same-after-value none = record { machine = refl; groups = fun-ext (upd-keeps (λ x. x .core) (t .group) g _ refl); places = refl }
-  same-after-value (some v) = same-after-entry (put v (settingsAt t g)) (entryOf v) (limits-after-put v (settingsAt t g))
+  same-after-value (some v) = same-after-entry (assign v (settingsAt t g)) (entryOf v) (limits-after-assign v (settingsAt t g))
 
 -- An accepted call: both keep the same afterwards, whatever the marks are, and the marks stay unless a setting is written.
 pub record Booked (t : Tree) (c : Call) : Type 0 where

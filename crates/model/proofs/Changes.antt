@@ -43,18 +43,19 @@ pub record WritesSetting (c : Call) : Type 0 where
   pub call : c ≡ Call.writeSetting user group file line
 
 -- from a to b of a resource, as the call's flow says; n more only where there is room for them
-pub data Flowed (c : Call) (s : Resource) (Room : ℕ → Type 0) (a b : ℕ) : Type 0 where
-  still : flow c ≡ Flow.none → b ≡ a → Flowed c s Room a b
-  came : (n : ℕ) → flow c ≡ Flow.into s n → b ≡ a + n → Room n → Flowed c s Room a b
-  went : (n : ℕ) → flow c ≡ Flow.out s n → b + n ≡ a → Flowed c s Room a b
+pub data Flowed (c : Call) (s : Resource) (Fits : ℕ → Type 0) (a b : ℕ) : Type 0 where
+  still : flow c ≡ Flow.none → b ≡ a → Flowed c s Fits a b
+  came : (n : ℕ) → flow c ≡ Flow.into s n → b ≡ a + n → Fits n → Flowed c s Fits a b
+  went : (n : ℕ) → flow c ≡ Flow.out s n → b + n ≡ a → Flowed c s Fits a b
 
--- a process that is put nowhere, or in a live group that may have processes
+-- a process in a live group that may have processes
 pub record StandsLive (t : Tree) (v : Process) : Type 0 where
   pub group : ℕ
   pub here : v .place ≡ at group
   pub alive : lives t group ≡ true
   pub quiet : group ≢ 0 → (x : Controller) → sets t group x ≡ false
 
+-- a process that is put nowhere, or in such a group
 pub record Placing (t : Tree) (c : Call) (p : ℕ) (v : Process) : Type 0 where
   pub number : p ≢ 0
   pub low : p < processes

@@ -8,7 +8,7 @@ use mathlib.Core.Option.{some}
 use mathlib.Core.Path.{_≡_, refl, _∙_}
 use Rattle.model.specs.Functions.{pick}
 use Rattle.model.specs.Tree.{CpuSettings, Settings, newSettings, withCpu, withAmounts, withLimit, controllerOf}
-use Rattle.model.specs.Settings.{settingController, valueOf, put, piece, AtDefault, reset}
+use Rattle.model.specs.Settings.{settingController, valueOf, assign, piece, AtDefault, reset}
 use Rattle.model.specs.declared.Resource.{Resource}
 use Rattle.model.specs.declared.Resource.the-variants.{Pages, Processes}
 use Rattle.model.specs.declared.Limit.{Limit}
@@ -41,12 +41,12 @@ piece-with-limit Processes l st Memory ne = refl
 piece-with-limit Pages l st Pids ne = refl
 piece-with-limit Processes l st Pids ne = absurd (ne refl)
 
-piece-after-put-other : (v : SettingValue) (st : Settings) (c : Controller) → settingController (settingOf v) ≢ c → piece c (put v st) ≡ piece c st
-unfolding put
-piece-after-put-other (Weight n) st c ne = piece-with-cpu _ st c ne
-piece-after-put-other (Quota q) st c ne = piece-with-cpu _ st c ne
-piece-after-put-other (Bandwidth q p) st c ne = piece-with-cpu _ st c ne
-piece-after-put-other (Maximum r l) st c ne = piece-with-limit r _ st c ne
+piece-after-assign-other : (v : SettingValue) (st : Settings) (c : Controller) → settingController (settingOf v) ≢ c → piece c (assign v st) ≡ piece c st
+unfolding assign
+piece-after-assign-other (Weight n) st c ne = piece-with-cpu _ st c ne
+piece-after-assign-other (Quota q) st c ne = piece-with-cpu _ st c ne
+piece-after-assign-other (Bandwidth q p) st c ne = piece-with-cpu _ st c ne
+piece-after-assign-other (Maximum r l) st c ne = piece-with-limit r _ st c ne
 
 -- Defaults, for any controller.
 pub default-new : (c : Controller) → AtDefault c newSettings
@@ -69,7 +69,7 @@ module _ (gone : Controller → Bool) (c : Controller) (st : Settings) where
   default-after-reset h = split (gone c) (λ y. piece-reset y) (λ n. piece-kept n ∙ h)
 
 -- a value for a setting of another controller
-pub default-after-put : (s : Setting) (ws : List (List ℕ)) (v : SettingValue) (c : Controller) (st : Settings)
-    → valueOf s ws ≡ some v → settingController s ≢ c → AtDefault c st → AtDefault c (put v st)
+pub default-after-assign : (s : Setting) (ws : List (List ℕ)) (v : SettingValue) (c : Controller) (st : Settings)
+    → valueOf s ws ≡ some v → settingController s ≢ c → AtDefault c st → AtDefault c (assign v st)
 unfolding AtDefault
-default-after-put s ws v c st e ne h = piece-after-put-other v st c (rw (settingOf-valueOf s ws v e) ne) ∙ h
+default-after-assign s ws v c st e ne h = piece-after-assign-other v st c (rw (settingOf-valueOf s ws v e) ne) ∙ h

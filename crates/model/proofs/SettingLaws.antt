@@ -1,4 +1,4 @@
--- Laws of the settings: ranges; values shown and put back; which setting a value is for. What a reset and a value do to a controller's
+-- Laws of the settings: ranges; values shown and assigned again; which setting a value is for. What a reset and a value do to a controller's
 -- piece is in PieceLaws, to what is allowed in AllowedLaws; how values read as text is in SettingTextLaws. Assumes nothing.
 use Prim.Native.Nat.{ℕ}
 use native.Mathlib.Omega.{arith}
@@ -10,7 +10,7 @@ use Rattle.model.specs.Functions.{mapped, All}
 use Rattle.model.specs.Tree.{Settings, withAmounts, withLimit}
 use Rattle.model.specs.Text.{oneWord, numberWord}
 use Rattle.model.specs.Figures.{limitWord}
-use Rattle.model.specs.Settings.{bandwidthOf, bandwidthWords, valueOf, between, quotaIn, inRange, toAmount, toFigure, mapLimit, put, shown}
+use Rattle.model.specs.Settings.{bandwidthOf, bandwidthWords, valueOf, between, quotaIn, inRange, toAmount, toFigure, mapLimit, assign, shown}
 use Rattle.model.specs.declared.Resource.{Resource}
 use Rattle.model.specs.declared.Resource.the-variants.{Pages, Processes}
 use Rattle.model.specs.declared.Limit.{Limit}
@@ -31,7 +31,7 @@ module _ (q : Limit) (p : ℕ) (e : inRange (Bandwidth q p) ≡ true) where
   unfolding inRange
   range-of-period = and-right (quotaIn q) (between 1000 1000000 p) e
 
--- Shown and put back.
+-- Shown and assigned again.
 -- what a file shows of an amount is rounded to that amount
 pub toAmount-toFigure : (r : Resource) (n : ℕ) → toAmount r (toFigure r n) ≡ n
 toAmount-toFigure Pages n = omega arith
@@ -50,13 +50,13 @@ withLimit-all P Processes l f p q Pages = q Pages
 withLimit-all P Processes l f p q Processes = p
 
 abbrev Restores : Settings → SettingValue → Type 0
-Restores st v = put v st ≡ st
+Restores st v = assign v st ≡ st
 
-pub put-shown : (s : Setting) (st : Settings) → All (Restores st) (shown s st)
-unfolding put shown All
-put-shown CpuWeight st = (refl, tt)
-put-shown CpuMax st = (refl, tt)
-put-shown (Max r) st = (
+pub assign-shown : (s : Setting) (st : Settings) → All (Restores st) (shown s st)
+unfolding assign shown All
+assign-shown CpuWeight st = (refl, tt)
+assign-shown CpuMax st = (refl, tt)
+assign-shown (Max r) st = (
   ap (λ (f : Resource → Limit). withAmounts f st)
       (fun-ext (withLimit-all (λ x l. l ≡ st .limit x) r _ (st .limit) (mapLimit-back r (st .limit r)) (λ x. refl))),
   tt,

@@ -33,8 +33,8 @@ use Rattle.model.proofs.FunctionLaws.{split, clash, and-false, any-none
 use Rattle.model.proofs.CheckLaws.{first-pass}
 use Rattle.model.proofs.AmountLaws.{place-live, place-free}
 use Rattle.model.proofs.ControlLaws.{any-controller-none, set-after-true, join-none, leave-true}
-use Rattle.model.proofs.PieceLaws.{default-new, default-after-put}
-use Rattle.model.proofs.AllowedLaws.{allowed-new, allowed-after-put}
+use Rattle.model.proofs.PieceLaws.{default-new, default-after-assign}
+use Rattle.model.proofs.AllowedLaws.{allowed-new, allowed-after-assign}
 use Rattle.model.proofs.RoomLaws.{room-on-chain, over-figure, machine-acts}
 use Rattle.model.proofs.RuleLaws.{NoChild, untaken-group, untaken-process}
 use Rattle.model.proofs.Preservation.{Patch, well-formed-after-patch, well-formed-after-place, well-formed-after-make, well-formed-after-remove}
@@ -122,8 +122,8 @@ module _ (t : Tree) (w : WellFormed t) where
         set = refl;
         owner = root-owner g;
         defaults =
-            λ c h. default-after-put s ws v c (settingsAt t g) e (controller-apart s c g o h) (w .defaults .off c g l h);
-        ranges = allowed-after-put v (settingsAt t g) r (w .ranges .within g l);
+            λ c h. default-after-assign s ws v c (settingsAt t g) e (controller-apart s c g o h) (w .defaults .off c g l h);
+        ranges = allowed-after-assign v (settingsAt t g) r (w .ranges .within g l);
       }
 
   kept-setting : (g : ℕ) (named : Option Setting) (line : List ℕ) → lives t g ≡ true → passes named (λ s. on t (settingController s) g) ≡ true

@@ -1,5 +1,5 @@
 -- Every line that a settings file shows can be written back by whoever may write it, and changes nothing: it reads as the value shown,
--- which a well-formed tree has in range, and which is put where it stands. Assumes nothing.
+-- which a well-formed tree has in range, and which is assigned where it stands. Assumes nothing.
 use Prim.Native.Nat.{ℕ, _≤_, _<_}
 use native.Mathlib.Omega.{arith}
 use mathlib.Core.Bool.{true, false}
@@ -15,7 +15,7 @@ use Rattle.model.specs.Tree.{Tree, Group, Settings, lives, parents, sett
 use Rattle.model.specs.Hierarchy.{on, factsOf}
 use Rattle.model.specs.Text.{ended, joined, linesOf, body, words, lineWords, tooLong}
 use Rattle.model.specs.Names.{settingName, settingNamed}
-use Rattle.model.specs.Settings.{settingController, Allowed, inRange, put, shown, valueText}
+use Rattle.model.specs.Settings.{settingController, Allowed, inRange, assign, shown, valueText}
 use Rattle.model.specs.Rules.{noGroupNumber, mayWrite}
 use Rattle.model.specs.Files.{contents}
 use Rattle.model.specs.Calls.{writeSetting, checks, lineValue, verdict}
@@ -32,7 +32,7 @@ use Rattle.model.proofs.FunctionLaws.{upd-id, all-of, all-map, all-both
 use Rattle.model.proofs.CheckLaws.{pass-first}
 use Rattle.model.proofs.NameLaws.{settingNamed-settingName}
 use Rattle.model.proofs.TextLaws.{Unbroken, lines-of-each, joined-lines, body-ended, body-unbroken}
-use Rattle.model.proofs.SettingLaws.{put-shown}
+use Rattle.model.proofs.SettingLaws.{assign-shown}
 use Rattle.model.proofs.SettingTextLaws.{ReadsBack, shown-reads-back, unbroken-value, shown-short}
 use Rattle.model.proofs.Steps.{step-accepted}
 
@@ -41,14 +41,14 @@ record Shown (s : Setting) (st : Settings) (v : SettingValue) : Type 0 where
   reads : ReadsBack s v
   ranged : inRange v ≡ true
   short : length (valueText v) < longestLine
-  stands : put v st ≡ st
+  stands : assign v st ≡ st
 
 all-shown : (s : Setting) (st : Settings) → Allowed st → All (Shown s st) (shown s st)
 all-shown s st h =
     all-both _ _ (Shown s st) (shown s st) (λ v x y. record { reads = x .0; ranged = x .1; short = y .0; stands = y .1 })
     (all-both _ _ (λ v. ReadsBack s v × (inRange v ≡ true)) (shown s st) (λ v x y. (x, y)) (shown-reads-back s st) (h .values s))
-    (all-both _ _ (λ v. (length (valueText v) < longestLine) × (put v st ≡ st)) (shown s st) (λ v x y. (x, y))
-    (shown-short s st (h .values s)) (put-shown s st))
+    (all-both _ _ (λ v. (length (valueText v) < longestLine) × (assign v st ≡ st)) (shown s st) (λ v x y. (x, y))
+    (shown-short s st (h .values s)) (assign-shown s st))
 
 -- a line of which that is the value
 module _ (t : Tree) (well : WellFormed t) (user g : ℕ) (s : Setting) (live : lives t g ≡ true)

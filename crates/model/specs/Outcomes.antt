@@ -7,30 +7,30 @@ use mathlib.Core.Option.{none}
 use lib.ListN.{length, replicate}
 use Rattle.model.specs.Text.{bytes}
 use Rattle.model.specs.Calls.{make, remove, handOver, writeSetting, admit, fork, exit, charge, release, read, membership}
-use Rattle.model.specs.Worked.{Row, row, succeeds, refuses, granted, stopped, reads, belongs, setting, control, procs, Evening, evening}
+use Rattle.model.specs.Worked.{Exchange, exchange, succeeds, refuses, granted, stopped, reads, belongs, setting, control, procs, Evening, evening}
 use Rattle.model.specs.Refusals.{allSucceed, allGet, allThree, unread, begun}
 
 -- a text that fills its buffer, and one that does not fit into n bytes
-abbrev pub fills : ℕ → String → String → Row
+abbrev pub fills : ℕ → String → String → Exchange
 fills g file text =
     let n : ℕ = length (bytes text) in
-    row (read g (bytes file) (replicate n 0)) 0 none 0 n (bytes text)
+    exchange (read g (bytes file) (replicate n 0)) 0 none 0 n (bytes text)
 
-abbrev pub overflows : ℕ → String → ℕ → Row
-overflows g file n = row (read g (bytes file) (replicate n 1)) 28 none 0 0 (replicate n 1)
+abbrev pub overflows : ℕ → String → ℕ → Exchange
+overflows g file n = exchange (read g (bytes file) (replicate n 1)) 28 none 0 0 (replicate n 1)
 
 -- files that are only where their controller is on
 abbrev pub resourceFiles : List String
 resourceFiles = "memory.current" ∷ "pids.current" ∷ "cpu.weight" ∷ "cpu.max" ∷ "memory.max" ∷ "pids.max" ∷ []
 
-abbrev pub absent : ℕ → List String → List Row
+abbrev pub absent : ℕ → List String → List Exchange
 absent g files = map (λ file. unread g file 2) files
 
 -- one setting of several groups, written and read
-abbrev pub setIn : List ℕ → String → String → List Row
+abbrev pub setIn : List ℕ → String → String → List Exchange
 setIn gs file line = allSucceed (map (λ g. setting 0 g file line) gs)
 
-abbrev pub readsIn : List ℕ → String → String → List Row
+abbrev pub readsIn : List ℕ → String → String → List Exchange
 readsIn gs file text = map (λ g. reads g file text) gs
 
 -- Make: "Owner is the user; set empty; defaults; no pages", under a parent that has a set, settings and pages too, and where a
@@ -223,11 +223,11 @@ wholeReplies =
     ++ fills 0 "cgroup.controllers" "cpu memory pids\n" ∷ fills 0 "cgroup.subtree_control" "" ∷ []
     ++ fills 3 "cgroup.controllers" "" ∷ fills 3 "cgroup.subtree_control" "" ∷ fills 3 "cgroup.procs" "" ∷ []
     ++ succeeds (control 0 0 "+cpu +memory") ∷ fills 0 "cgroup.subtree_control" "cpu memory\n" ∷ []
-    ++ succeeds (procs 0 7 "12") ∷ row (membership 12 (replicate 7 1)) 28 none 0 0 (replicate 7 1) ∷ []
-    ++ row (membership 12 (replicate 8 1)) 0 none 0 8 (bytes "0::/3/7\n") ∷ [])
+    ++ succeeds (procs 0 7 "12") ∷ exchange (membership 12 (replicate 7 1)) 28 none 0 0 (replicate 7 1) ∷ []
+    ++ exchange (membership 12 (replicate 8 1)) 0 none 0 8 (bytes "0::/3/7\n") ∷ [])
 
 -- 3 under 2 under 1; in 2 two processes, 5 and 6, and one page, which was charged while memory was off
-abbrev pub standing : List Row
+abbrev pub standing : List Exchange
 standing =
     allSucceed (make 0 0 1 ∷ make 0 1 2 ∷ make 0 2 3 ∷ admit 5 0 ∷ procs 0 2 "5" ∷ [])
     ++ granted (charge 5 1) 3 ∷ granted (fork 5 6) 3 ∷ []

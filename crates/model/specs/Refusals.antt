@@ -8,13 +8,13 @@ use mathlib.Core.Option.{none}
 use lib.ListN.{length, replicate}
 use Rattle.model.specs.Text.{bytes, space, ended}
 use Rattle.model.specs.Calls.{Call, make, remove, handOver, writeProcs, writeControl, writeSetting, admit, fork, exit, charge, release, read, membership}
-use Rattle.model.specs.Worked.{Row, row, succeeds, refuses, granted, stopped, sentinels, reads, belongs, setting, control, procs, Evening, evening}
+use Rattle.model.specs.Worked.{Exchange, exchange, succeeds, refuses, granted, stopped, sentinels, reads, belongs, setting, control, procs, Evening, evening}
 
 -- calls that all succeed, and calls that all get one number
-abbrev pub allSucceed : List Call → List Row
+abbrev pub allSucceed : List Call → List Exchange
 allSucceed cs = map succeeds cs
 
-abbrev pub allGet : ℕ → List Call → List Row
+abbrev pub allGet : ℕ → List Call → List Exchange
 allGet n cs = map (λ c. refuses c n) cs
 
 -- every controller wanted
@@ -26,14 +26,14 @@ abbrev pub padded : ℕ → String → List ℕ
 padded n text = bytes text ++ replicate (n - length (bytes text)) space
 
 -- a reader who is refused, and whose bytes stay as they were
-abbrev pub unread : ℕ → String → ℕ → Row
-unread g file n = row (read g (bytes file) sentinels) n none 0 0 sentinels
+abbrev pub unread : ℕ → String → ℕ → Exchange
+unread g file n = exchange (read g (bytes file) sentinels) n none 0 0 sentinels
 
-abbrev pub unknown : ℕ → ℕ → Row
-unknown p n = row (membership p sentinels) n none 0 0 sentinels
+abbrev pub unknown : ℕ → ℕ → Exchange
+unknown p n = exchange (membership p sentinels) n none 0 0 sentinels
 
 -- groups 2 and 3 under 1, all three user 7's; in the root process 5, user 7's, and process 6, user 8's
-abbrev pub begun : List Row
+abbrev pub begun : List Exchange
 begun = allSucceed (make 0 0 1 ∷ handOver 0 1 7 ∷ make 7 1 2 ∷ make 7 1 3 ∷ admit 5 7 ∷ admit 6 8 ∷ [])
 
 -- Make: 22, 2, 17, 13. The root is live, and user 0's. "Owner is the user", user 0 too, and the parent's owner stays. Neither who

@@ -80,11 +80,11 @@ mapLimit f NoLimit = NoLimit
 mapLimit f (Figure n) = Figure (f n)
 
 -- "One word leaves the period."
-unfoldable pub put : SettingValue → Settings → Settings
-put (Weight n) s = withCpu (record { weight = n; quota = s .cpu .quota; period = s .cpu .period }) s
-put (Quota q) s = withCpu (record { weight = s .cpu .weight; quota = q; period = s .cpu .period }) s
-put (Bandwidth q p) s = withCpu (record { weight = s .cpu .weight; quota = q; period = p }) s
-put (Maximum r l) s = withAmounts (withLimit r (mapLimit (toAmount r) l) (s .limit)) s
+unfoldable pub assign : SettingValue → Settings → Settings
+assign (Weight n) s = withCpu (record { weight = n; quota = s .cpu .quota; period = s .cpu .period }) s
+assign (Quota q) s = withCpu (record { weight = s .cpu .weight; quota = q; period = s .cpu .period }) s
+assign (Bandwidth q p) s = withCpu (record { weight = s .cpu .weight; quota = q; period = p }) s
+assign (Maximum r l) s = withAmounts (withLimit r (mapLimit (toAmount r) l) (s .limit)) s
 
 -- What a reader sees of a setting: its values, one a line, and each as text.
 unfoldable pub shown : Setting → Settings → List SettingValue

@@ -22,26 +22,26 @@ use Rattle.model.specs.declared.Limit.{Limit}
 use Rattle.model.specs.declared.Limit.the-variants.{NoLimit, Figure}
 
 -- a call and the whole reply that it must get
-pub record Row : Type 0 where
+pub record Exchange : Type 0 where
   pub call : Call
   pub expected : Reply
 
-abbrev pub row : Call → ℕ → Option ℕ → ℕ → ℕ → List ℕ → Row
-row c n g k l b = record { call = c; expected = record { number = n; group = g; consulted = k; told = l; buffer = b } }
+abbrev pub exchange : Call → ℕ → Option ℕ → ℕ → ℕ → List ℕ → Exchange
+exchange c n g k l b = record { call = c; expected = record { number = n; group = g; consulted = k; told = l; buffer = b } }
 
 -- success, or a number, with nothing to tell
-abbrev pub succeeds : Call → Row
-succeeds c = row c 0 none 0 0 []
+abbrev pub succeeds : Call → Exchange
+succeeds c = exchange c 0 none 0 0 []
 
-abbrev pub refuses : Call → ℕ → Row
-refuses c n = row c n none 0 0 []
+abbrev pub refuses : Call → ℕ → Exchange
+refuses c n = exchange c n none 0 0 []
 
 -- a charge or a fork that found room, and one that did not
-abbrev pub granted : Call → ℕ → Row
-granted c k = row c 0 none k 0 []
+abbrev pub granted : Call → ℕ → Exchange
+granted c k = exchange c 0 none k 0 []
 
-abbrev pub stopped : Call → ℕ → ℕ → ℕ → Row
-stopped c n g k = row c n (some g) k 0 []
+abbrev pub stopped : Call → ℕ → ℕ → ℕ → Exchange
+stopped c n g k = exchange c n (some g) k 0 []
 
 -- a text delivered into a buffer that is four bytes longer
 abbrev pub sentinels : List ℕ
@@ -51,13 +51,13 @@ abbrev pub blankBytes : List ℕ → List ℕ
 blankBytes [] = []
 blankBytes (b ∷ bs) = 0 ∷ blankBytes bs
 
-abbrev pub reads : ℕ → String → String → Row
+abbrev pub reads : ℕ → String → String → Exchange
 reads g file text =
-    row (read g (bytes file) (blankBytes (bytes text) ++ sentinels)) 0 none 0 (length (bytes text)) (bytes text ++ sentinels)
+    exchange (read g (bytes file) (blankBytes (bytes text) ++ sentinels)) 0 none 0 (length (bytes text)) (bytes text ++ sentinels)
 
-abbrev pub belongs : ℕ → String → Row
+abbrev pub belongs : ℕ → String → Exchange
 belongs p text =
-    row (membership p (blankBytes (bytes text) ++ sentinels)) 0 none 0 (length (bytes text)) (bytes text ++ sentinels)
+    exchange (membership p (blankBytes (bytes text) ++ sentinels)) 0 none 0 (length (bytes text)) (bytes text ++ sentinels)
 
 -- lines as text
 abbrev pub setting : ℕ → ℕ → String → String → Call
@@ -72,10 +72,10 @@ procs user g line = writeProcs user g (bytes line)
 -- An evening, in document 01's word: calls one after the other, from a fresh tree.
 pub record Evening : Type 0 where
   pub machine : ℕ
-  pub rows : List Row
+  pub exchanges : List Exchange
 
-abbrev pub evening : ℕ → List Row → Evening
-evening m rows = record { machine = m; rows = rows }
+abbrev pub evening : ℕ → List Exchange → Evening
+evening m exchanges = record { machine = m; exchanges = exchanges }
 
 abbrev pub sameOption : Option ℕ → Option ℕ → Bool
 sameOption none none = true
@@ -89,13 +89,13 @@ sameReply a b =
     && (sameOption (a .group) (b .group)
     && (eqb (a .consulted) (b .consulted) && (eqb (a .told) (b .told) && sameBytes (a .buffer) (b .buffer))))
 
-unfoldable pub holds : Tree → List Row → Bool
+unfoldable pub holds : Tree → List Exchange → Bool
 holds t [] = true
 holds t (r ∷ rs) = elim (sameReply (reply t (r .call)) (r .expected)) [ true ↦ holds (step t (r .call)) rs | false ↦ false ]
 
 unfoldable pub allHold : List Evening → Bool
 allHold [] = true
-allHold (e ∷ es) = elim (holds (fresh (e .machine)) (e .rows)) [ true ↦ allHold es | false ↦ false ]
+allHold (e ∷ es) = elim (holds (fresh (e .machine)) (e .exchanges)) [ true ↦ allHold es | false ↦ false ]
 
 abbrev pub limitsAndCharges : Evening
 limitsAndCharges =
@@ -198,18 +198,18 @@ unfoldable pub table : List Evening
 table = limitsAndCharges ∷ rounding ∷ weights ∷ lastWord ∷ delegation ∷ membershipPath ∷ []
 
 -- What the book of demand 3 keeps of a group's pages after the first calls of an evening: the limit, the usage and the mark.
-pub record BookRow : Type 0 where
+pub record BookState : Type 0 where
   pub calls : ℕ
   pub group : ℕ
   pub limit : ℕ
   pub usage : ℕ
   pub mark : ℕ
 
-abbrev pub bookRow : ℕ → ℕ → ℕ → ℕ → ℕ → BookRow
-bookRow n g l u m = record { calls = n; group = g; limit = l; usage = u; mark = m }
+abbrev pub bookState : ℕ → ℕ → ℕ → ℕ → ℕ → BookState
+bookState n g l u m = record { calls = n; group = g; limit = l; usage = u; mark = m }
 
 abbrev pub firstCalls : Evening → ℕ → List Call
-firstCalls e n = map (λ (r : Row). r .call) (take n (e .rows))
+firstCalls e n = map (λ (r : Exchange). r .call) (take n (e .exchanges))
 
 abbrev pub bookOfEvening : Evening → ℕ → Book
 bookOfEvening e n = bookAfter (fresh (e .machine)) (freshBook (e .machine)) (firstCalls e n)
@@ -218,21 +218,21 @@ abbrev pub isFigure : ℕ → Limit → Bool
 isFigure n NoLimit = false
 isFigure n (Figure m) = eqb m n
 
-abbrev pub isBooked : Book → BookRow → Bool
+abbrev pub isBooked : Book → BookState → Bool
 isBooked b x =
     isFigure (x .limit) (b .group (x .group) .limit Pages)
     && (eqb (inBook b Pages (x .group)) (x .usage) && eqb (b .mark (x .group)) (x .mark))
 
-unfoldable pub allBooked : Evening → List BookRow → Bool
+unfoldable pub allBooked : Evening → List BookState → Bool
 allBooked e [] = true
 allBooked e (x ∷ xs) = elim (isBooked (bookOfEvening e (x .calls)) x) [ true ↦ allBooked e xs | false ↦ false ]
 
 -- P1 to P4, in pages: after each of the two limits, after P1, after P3's release, after P3, after P4. After P3 group 1 has as many
 -- as its mark, and more than its limit; after P1 group 2 has as many as its limit.
-unfoldable pub marks : List BookRow
+unfoldable pub marks : List BookState
 marks =
-    bookRow 5 1 10 0 0 ∷ bookRow 6 2 8 0 0 ∷ bookRow 9 1 10 8 0 ∷ bookRow 9 2 8 8 0
-    ∷ bookRow 12 1 10 6 0 ∷ bookRow 13 1 5 6 6 ∷ bookRow 13 2 8 6 0 ∷ bookRow 15 1 5 6 6 ∷ []
+    bookState 5 1 10 0 0 ∷ bookState 6 2 8 0 0 ∷ bookState 9 1 10 8 0 ∷ bookState 9 2 8 8 0
+    ∷ bookState 12 1 10 6 0 ∷ bookState 13 1 5 6 6 ∷ bookState 13 2 8 6 0 ∷ bookState 15 1 5 6 6 ∷ []
 
 -- A second write marks anew, less than before too; a limit of processes, a charge, a release and a refused write leave the mark.
 abbrev pub rewriting : Evening
@@ -251,8 +251,8 @@ rewriting =
     ∷ refuses (setting 0 1 "memory.max" "x") 22
     ∷ [])
 
-unfoldable pub rewritten : List BookRow
-rewritten = bookRow 6 1 5 6 6 ∷ bookRow 7 1 5 2 6 ∷ bookRow 8 1 10 2 2 ∷ bookRow 9 1 10 3 2 ∷ bookRow 10 1 10 3 2 ∷ bookRow 11 1 10 3 2 ∷ []
+unfoldable pub rewritten : List BookState
+rewritten = bookState 6 1 5 6 6 ∷ bookState 7 1 5 2 6 ∷ bookState 8 1 10 2 2 ∷ bookState 9 1 10 3 2 ∷ bookState 10 1 10 3 2 ∷ bookState 11 1 10 3 2 ∷ []
 
 -- Pages and processes that came in and went out in P1 to P5, all but the last three calls: 8 charged and 2 released, one birth and one
 -- exit; and at the end, where 6 more are released and a release of 7 is refused twice.

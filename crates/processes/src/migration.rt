@@ -17,7 +17,7 @@ use model::GroupId;
 use model::ProcessId;
 use text::line::is_too_long;
 use text::number::Number;
-use text::number::read_number_line;
+use text::number::parse_number_line;
 use tree::chain::chain_of;
 use tree::chain::common_ancestor;
 use tree::group::has;
@@ -76,7 +76,7 @@ fn vet_line(tree: &Tree, line: &[u8]) -> Named
     if is_too_long(line) {
         return Named::Refused(Errno::Einval);
     }
-    let number = read_number_line(line);
+    let number = parse_number_line(line);
     match number {
         Number::Figure(figure) => vet_number(tree, figure),
         Number::NotANumber => Named::Refused(Errno::Einval),

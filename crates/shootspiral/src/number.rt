@@ -78,7 +78,7 @@ pub fn room_count(a: RoomAnswer) -> u64
     }
 }
 
-pub fn text_number(a: ReadAnswer) -> u32
+pub fn read_number(a: ReadAnswer) -> u32
     ensures { λ r. ⌜ r ≡ readNumber a ⌝ }
 {
     match a {
@@ -87,7 +87,7 @@ pub fn text_number(a: ReadAnswer) -> u32
     }
 }
 
-pub fn text_length(a: ReadAnswer) -> u64
+pub fn read_length(a: ReadAnswer) -> u64
     ensures { λ r. ⌜ r ≡ readLength a ⌝ }
 {
     match a {

@@ -5,8 +5,8 @@ ghost use Rattle.tree.specs.Layout.{view};
 ghost use Rattle.tree.specs.Kept.{Kept};
 ghost use Rattle.tree.specs.Calling.{Answered};
 ghost use Rattle.shootspiral.specs.Interface.{Told};
-use super::number::text_length;
-use super::number::text_number;
+use super::number::read_length;
+use super::number::read_number;
 use files::reader::membership;
 use files::reader::read;
 use model::GroupId;
@@ -27,8 +27,8 @@ pub extern "C" fn ss_read(
         (now (told .exit)) (now (reply .exit)) ⌝ }
 {
     let a = read(tree, GroupId(group), file, reply);
-    *told = [text_length(a)];
-    text_number(a)
+    *told = [read_length(a)];
+    read_number(a)
 }
 
 #[no_mangle]
@@ -44,6 +44,6 @@ pub extern "C" fn ss_membership(
         (now (told .exit)) (now (reply .exit)) ⌝ }
 {
     let a = membership(tree, ProcessId(process), reply);
-    *told = [text_length(a)];
-    text_number(a)
+    *told = [read_length(a)];
+    read_number(a)
 }

@@ -106,7 +106,7 @@ module _ (w : List ℕ) (i : ℕ) (h : i < length w) where
 pub known-end : (w : List ℕ) (i : ℕ) → i ≡ length w → true ≡ known (digitsFrom 0 (drop i w))
 known-end w i p = sym (ap known (digits-end w i 0 p))
 
--- ---- the turns of `read_number`
+-- ---- the turns of `parse_number`
 
 -- what is left of the word from i on, after digits worth v, is digits and makes the number of the word
 pub record Left (w : List ℕ) (i v : ℕ) : Type 0 where

@@ -1,4 +1,4 @@
--- Laws of values: ranges and clipping, the forms of a limit and of a line, and what an answer of `read_value` says. Assumes
+-- Laws of values: ranges and clipping, the forms of a limit and of a line, and what an answer of `parse_value` says. Assumes
 -- nothing.
 use Prim.Native.Nat.{ℕ, _-_, _^_, _≤_, _<_}
 use mathlib.Core.Bool.{Bool, true, false, _&&_}

@@ -53,13 +53,13 @@ copied-appended {d} {s} {e} {at} {k} h c =
 
 -- ---- a delivery
 
-pub delivered-short : (t b : List ℕ) → length b < length t → Delivers t b (ReadAnswer.Refused Errno.Enospc) b
-delivered-short t b h =
+pub delivers-short : (t b : List ℕ) → length b < length t → Delivers t b (ReadAnswer.Refused Errno.Enospc) b
+delivers-short t b h =
     record { answer = rw (lt-leb (length t) (length b) h); buffer = rw (lt-leb (length t) (length b) h) }
 
-pub delivered-whole : (t b e : List ℕ) (k : ℕ) → length t ≤ length b → Copied b 0 t e k
+pub delivers-whole : (t b e : List ℕ) (k : ℕ) → length t ≤ length b → Copied b 0 t e k
     → Delivers t b (ReadAnswer.Text k) e
-delivered-whole t b e k h c =
+delivers-whole t b e k h c =
     let n : k ≡ length t = omega (arith, c .end) in
     record {
       answer = rw (le-leb (length t) (length b) h, n);

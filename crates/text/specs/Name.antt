@@ -21,21 +21,24 @@ unfoldable pub placeNamed : {A : Type 0} → (A → List ℕ) → List ℕ → L
 placeNamed name w [] = zero
 placeNamed name w (a ∷ as′) = pick (sameBytes w (name a)) zero (suc (placeNamed name w as′))
 
--- What stands at a place of each list. Nobody asks beyond its end.
+-- What stands at a place of each list. Nobody asks beyond its end, where the first of all stands.
 abbrev pub controllerAt : ℕ → Controller
 controllerAt i = getD controllers i Cpu
 
 abbrev pub settingAt : ℕ → Setting
 settingAt i = getD settings i CpuWeight
 
+abbrev pub firstFile : File
+firstFile = Value CpuWeight
+
 abbrev pub coreFileAt : ℕ → File
-coreFileAt i = getD coreFiles i (Value CpuWeight)
+coreFileAt i = getD coreFiles i firstFile
 
 abbrev pub controllerFileAt : ℕ → File
-controllerFileAt i = getD controllerFiles i (Value CpuWeight)
+controllerFileAt i = getD controllerFiles i firstFile
 
 abbrev pub fileAt : ℕ → File
-fileAt i = getD files i (Value CpuWeight)
+fileAt i = getD files i firstFile
 
 abbrev pub asControllerName : Option Controller → ControllerName
 asControllerName none = ControllerName.Unknown

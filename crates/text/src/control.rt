@@ -43,7 +43,7 @@ fn is_controller(word: &[u8]) -> bool
 }
 
 // Whether a word is a sign and the name of a controller.
-pub fn is_control_word(word: &[u8]) -> bool
+fn is_control_word(word: &[u8]) -> bool
     ensures { λ r. ⌜ r ≡ isControlWord (now (word .entry)) ⌝ }
 {
     if word.len() == 0 {

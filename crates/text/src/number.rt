@@ -47,7 +47,7 @@ fn is_number(word: &[u8]) -> bool
 }
 
 // The number that a word writes.
-pub fn read_number(word: &[u8]) -> Number
+pub fn parse_number(word: &[u8]) -> Number
     ensures { λ r. ⌜ r ≡ asNumber (numberWord (now (word .entry))) ⌝ }
 {
     if !is_number(word) {
@@ -67,8 +67,8 @@ pub fn read_number(word: &[u8]) -> Number
 }
 
 // The number of a line that is exactly one number word.
-pub fn read_number_line(line: &[u8]) -> Number
+pub fn parse_number_line(line: &[u8]) -> Number
     ensures { λ r. ⌜ r ≡ asNumber (numberLine (now (line .entry))) ⌝ }
 {
-    read_number(sole_word(line))
+    parse_number(sole_word(line))
 }

@@ -10,8 +10,8 @@ use super::line::is_same;
 use super::line::sole_word;
 use super::line::split;
 use super::number::Number;
-use super::number::read_number;
-use super::number::read_number_line;
+use super::number::parse_number;
+use super::number::parse_number_line;
 use model::Limit;
 use model::Resource;
 use model::Setting;
@@ -31,47 +31,47 @@ pub enum LineValue {
 }
 
 // "max", or a number word.
-fn read_limit(word: &[u8]) -> LimitWord
+fn parse_limit(word: &[u8]) -> LimitWord
     ensures { λ r. ⌜ r ≡ asLimitWord (limitWord (now (word .entry))) ⌝ }
 {
     if is_same(word, b"max") {
         return LimitWord::Of(Limit::NoLimit);
     }
-    let number = read_number(word);
+    let number = parse_number(word);
     let Number::Figure(n) = number else {
         return LimitWord::Malformed;
     };
     LimitWord::Of(Limit::Figure(n))
 }
 
-fn read_weight(line: &[u8]) -> LineValue
+fn parse_weight(line: &[u8]) -> LineValue
     ensures { λ r. ⌜ r ≡ asLineValue (valueOf Setting.CpuWeight (lineWords (now (line .entry)))) ⌝ }
 {
-    let weight = read_number_line(line);
+    let weight = parse_number_line(line);
     let Number::Figure(n) = weight else {
         return LineValue::Malformed;
     };
     LineValue::Of(SettingValue::Weight(n))
 }
 
-fn read_quota(word: &[u8]) -> LineValue
+fn parse_quota(word: &[u8]) -> LineValue
     ensures { λ r. ⌜ r ≡ asLineValue (valueOf Setting.CpuMax (now (word .entry) ∷ [])) ⌝ }
 {
-    let quota = read_limit(word);
+    let quota = parse_limit(word);
     let LimitWord::Of(q) = quota else {
         return LineValue::Malformed;
     };
     LineValue::Of(SettingValue::Quota(q))
 }
 
-fn read_quota_and_period(first: &[u8], second: &[u8]) -> LineValue
+fn parse_quota_and_period(first: &[u8], second: &[u8]) -> LineValue
     ensures { λ r. ⌜ r ≡ asLineValue (valueOf Setting.CpuMax (now (first .entry) ∷ now (second .entry) ∷ [])) ⌝ }
 {
-    let quota = read_limit(first);
+    let quota = parse_limit(first);
     let LimitWord::Of(q) = quota else {
         return LineValue::Malformed;
     };
-    let period = read_number(second);
+    let period = parse_number(second);
     let Number::Figure(p) = period else {
         return LineValue::Malformed;
     };
@@ -79,7 +79,7 @@ fn read_quota_and_period(first: &[u8], second: &[u8]) -> LineValue
 }
 
 // cpu.max: one word or two.
-fn read_bandwidth(line: &[u8]) -> LineValue
+fn parse_bandwidth(line: &[u8]) -> LineValue
     ensures { λ r. ⌜ r ≡ asLineValue (valueOf Setting.CpuMax (lineWords (now (line .entry)))) ⌝ }
 {
     let words = split(line);
@@ -88,23 +88,23 @@ fn read_bandwidth(line: &[u8]) -> LineValue
         Words::One(word) => {
             let s = word.start;
             let e = word.end;
-            read_quota(&line[s..e])
+            parse_quota(&line[s..e])
         }
         Words::Two(first, second) => {
             let a = first.start;
             let b = first.end;
             let s = second.start;
             let e = second.end;
-            read_quota_and_period(&line[a..b], &line[s..e])
+            parse_quota_and_period(&line[a..b], &line[s..e])
         }
         Words::More => LineValue::Malformed,
     }
 }
 
-fn read_maximum(resource: Resource, line: &[u8]) -> LineValue
+fn parse_maximum(resource: Resource, line: &[u8]) -> LineValue
     ensures { λ r. ⌜ r ≡ asLineValue (valueOf (Setting.Max resource) (lineWords (now (line .entry)))) ⌝ }
 {
-    let limit = read_limit(sole_word(line));
+    let limit = parse_limit(sole_word(line));
     let LimitWord::Of(l) = limit else {
         return LineValue::Malformed;
     };
@@ -112,12 +112,12 @@ fn read_maximum(resource: Resource, line: &[u8]) -> LineValue
 }
 
 // The value that a line gives a setting.
-pub fn read_value(setting: Setting, line: &[u8]) -> LineValue
+pub fn parse_value(setting: Setting, line: &[u8]) -> LineValue
     ensures { λ r. ⌜ r ≡ asLineValue (valueOf setting (lineWords (now (line .entry)))) ⌝ }
 {
     match setting {
-        Setting::CpuWeight => read_weight(line),
-        Setting::CpuMax => read_bandwidth(line),
-        Setting::Max(resource) => read_maximum(resource, line),
+        Setting::CpuWeight => parse_weight(line),
+        Setting::CpuMax => parse_bandwidth(line),
+        Setting::Max(resource) => parse_maximum(resource, line),
     }
 }

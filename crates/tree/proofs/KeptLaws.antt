@@ -74,7 +74,7 @@ unfolding inside
 on-chain-live s g a l m = inside-live s a g l m
 
 module _ (xs : List ℕ) (k : Kept xs) where
-  pub sum-small : (c : Counter) (a : ℕ) → sumIn xs c a ≤ largestMachine
+  sum-small : (c : Counter) (a : ℕ) → sumIn xs c a ≤ largestMachine
   sum-small c a = omega (arith, k .sums c a, count-small (view xs) (k .formed) c a)
 
   pub live-row : (a : ℕ) → lives (view xs) a ≡ true → HasParent xs a

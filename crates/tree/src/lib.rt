@@ -9,5 +9,5 @@ pub mod sum; // its running sums
 pub mod process; // what is kept of a process
 pub mod fresh; // a fresh tree
 pub mod chain; // chains, by value, and the common ancestor
-pub mod counter; // running sums and room along a chain
+pub mod counter; // counts, running sums, and room along a chain
 pub mod rule; // the tests that checks are made of

@@ -17,11 +17,11 @@ use Rattle.control.proofs.setting.vet_value.Statement.{statement}
 use Rattle.control.proofs.setting.vet_value.Tie as tie
 
 -- what the line gives the setting
-abbrev value-of : tie.After-read-value → Option SettingValue
+abbrev value-of : tie.After-parse-value → Option SettingValue
 value-of r = let a = r .before .before .before .before .args in valueOf (a .setting) (lineWords (a .line .now))
 
 found : (k : tie.After-known-told) → LineValue.Of (k .before .read .given .0 .0) ≡ asLineValue (value-of (k .before .before .before))
-found k = sym (k .before .read .given .1) ∙ k .before .before .before .read-value .ensures
+found k = sym (k .before .read .given .1) ∙ k .before .before .before .parse-value .ensures
 
 formed : (k : tie.After-known-told) → known (value-of (k .before .before .before)) ≡ true
 formed k = is-known (value-of (k .before .before .before)) _ (found k)
@@ -37,8 +37,8 @@ returns : tie.Need-returns
 unfolding valueChecks
 returns c = search vets depth 12 fits 4000
 
-read-value-requires : tie.Need-read-value-requires
-read-value-requires c κs = search needs
+parse-value-requires : tie.Need-parse-value-requires
+parse-value-requires c κs = search needs
 
 enum-told : tie.Need-enum-told
 enum-told c = search needs
@@ -62,7 +62,7 @@ returns-3 : tie.Need-returns-3
 unfolding valueChecks
 returns-3 c =
     let r = c .before .before in
-    let m = is-malformed (value-of r) (sym (c .enum-told .given .1) ∙ r .read-value .ensures) in
+    let m = is-malformed (value-of r) (sym (c .enum-told .given .1) ∙ r .parse-value .ensures) in
     search vets depth 12 fits 4000
 
 -- the value
@@ -83,7 +83,7 @@ vet-value-spec =
     (tie.spec
     is-too-long-requires
     returns
-    read-value-requires
+    parse-value-requires
     enum-told
     enum-known-read
     is-in-range-requires

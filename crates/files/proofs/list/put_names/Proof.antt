@@ -2,7 +2,7 @@
 use native.Mathlib.Omega.{arith}
 use borrow.Author.Needs.{needs}
 use Rattle.model.specs.Text.{bytes}
-use Rattle.files.proofs.NameLineLaws.{length-name, line-wrote}
+use Rattle.files.proofs.NameLineLaws.{length-name, line-appended}
 use Rattle.files.proofs.list.put_names.Statement.{statement}
 use Rattle.files.proofs.list.put_names.Tie as tie
 
@@ -68,7 +68,7 @@ returns c =
     let q = r .before .before .before .before .before in
     let p = q .before .before .before .before .before in
     let a = p .before .before .before .before .args in
-    line-wrote (a .cpu) (a .memory) (a .pids)
+    line-appended (a .cpu) (a .memory) (a .pids)
     (p .put-name .ensures)
     (q .put-name2 .ensures)
     (r .put-name3 .ensures)

@@ -12,8 +12,7 @@ use Rattle.model.specs.Tree.{lives}
 use Rattle.model.specs.Names.{fileName, files, fileNamed}
 use Rattle.model.specs.Calls.{read}
 use Rattle.model.specs.declared.ReadAnswer.{ReadAnswer}
-use Rattle.model.specs.declared.Setting.the-variants.{CpuWeight}
-use Rattle.model.specs.declared.File.the-variants.{Value}
+use Rattle.text.specs.Name.{firstFile}
 use Rattle.text.proofs.NameLaws.{named-at, named-none}
 use Rattle.tree.specs.Layout.{view}
 use Rattle.tree.specs.Calling.{Delivering}
@@ -38,7 +37,7 @@ found : (c : tie.After-file-at)
     → fileNamed (c .before .before .before .before .before .before .before .before .before .args .file .now) ≡ some (c .file-at .result)
 found c =
     let p = c .before .before in
-    named-at fileName _ files (p .file-place .ensures) (Value CpuWeight) (omega arith) ∙ ap some (sym (c .file-at .ensures))
+    named-at fileName _ files (p .file-place .ensures) firstFile (omega arith) ∙ ap some (sym (c .file-at .ensures))
 
 -- a number out of range
 returns : tie.Need-returns

@@ -4,7 +4,7 @@ use mathlib.Core.Path.{sym}
 use lib.Seq.{length-take-le}
 use borrow.Author.Needs.{needs}
 use Rattle.text.proofs.WriteLaws.{appended-inside}
-use Rattle.files.proofs.DeliveryLaws.{delivered-text}
+use Rattle.files.proofs.DeliveryLaws.{delivers-text}
 use Rattle.files.proofs.reader.read_other.Statement.{statement}
 use Rattle.files.proofs.reader.read_other.Tie as tie
 
@@ -35,7 +35,7 @@ same-length c = search needs
 returns : tie.Need-returns
 returns c =
     let d = c .before .before in
-    delivered-text (d .before .before .before .before .render .ensures) (d .deliver .ensures)
+    delivers-text (d .before .before .before .before .render .ensures) (d .deliver .ensures)
 
 pub read-other-spec : {M : Type 1} → statement M
 read-other-spec =

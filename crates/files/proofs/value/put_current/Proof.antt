@@ -2,7 +2,7 @@
 use native.Mathlib.Omega.{arith}
 use borrow.Author.Needs.{needs}
 use Rattle.text.proofs.WriteLaws.{appended-as}
-use Rattle.files.proofs.ValueTextLaws.{figure-fits, length-figure, current-text}
+use Rattle.files.proofs.ValueTextLaws.{figure-fits, length-count, current-text}
 use Rattle.files.proofs.value.put_current.Statement.{statement}
 use Rattle.files.proofs.value.put_current.Tie as tie
 
@@ -21,7 +21,7 @@ put-line-requires c κs =
     let s = u .before .before in
     omega (
       arith,
-      length-figure _ (s .pre .group .kept .formed) _ (s .args .s) _ _ (u .count .ensures) (f .to-figure .ensures),
+      length-count _ (s .pre .group .kept .formed) _ (s .args .s) _ _ (u .count .ensures) (f .to-figure .ensures),
       s .pre .room,
     )
 

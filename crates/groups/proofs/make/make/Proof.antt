@@ -42,8 +42,8 @@ adjust-requires c κs =
     let d = c .before .before .before in
     make-countable _ (d .before .before .before .before .pre) _ _ _ (accepted d) _ (omega arith)
 
-put-group-requires : tie.Need-put-group-requires
-put-group-requires c κs =
+set-group-requires : tie.Need-set-group-requires
+set-group-requires c κs =
     let d = c .before .before .before .before .before in
     record { long = c .before .adjust .ensures .long; low = makeable _ _ _ _ (accepted d) .low }
 
@@ -54,7 +54,7 @@ returns-2 c =
     let d = j .before .before .before .before in
     let s = d .before .before .before .before in
     call-done _ (s .pre) _ (accepted d) _ _ _
-    (applied-make _ (s .pre) _ _ _ (accepted d) _ _ _ (j .before .before .depth .ensures) (j .adjust .ensures) (c .put-group .ensures)) (sym (accepted d))
+    (applied-make _ (s .pre) _ _ _ (accepted d) _ _ _ (j .before .before .depth .ensures) (j .adjust .ensures) (c .set-group .ensures)) (sym (accepted d))
 
 pub make-spec : {M : Type 1} → statement M
 make-spec =
@@ -67,5 +67,5 @@ make-spec =
     depth-requires
     add-deep
     adjust-requires
-    put-group-requires
+    set-group-requires
     returns-2)

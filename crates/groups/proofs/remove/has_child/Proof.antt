@@ -4,7 +4,7 @@ use mathlib.Core.Bool.{not}
 use mathlib.Core.Path.{ap, _∙_}
 use lib.Dec.{eqb}
 use borrow.Author.Needs.{needs}
-use Rattle.groups.proofs.LeafLaws.{child-counted}
+use Rattle.groups.proofs.LeafLaws.{hasChild-counted}
 use Rattle.groups.proofs.remove.has_child.Statement.{statement}
 use Rattle.groups.proofs.remove.has_child.Tie as tie
 
@@ -12,7 +12,7 @@ count-requires : tie.Need-count-requires
 count-requires c κs = search needs
 
 returns : tie.Need-returns
-returns c = ap (λ (n : ℕ). not (eqb n 0)) (c .count .ensures) ∙ child-counted _ _
+returns c = ap (λ (n : ℕ). not (eqb n 0)) (c .count .ensures) ∙ hasChild-counted _ _
 
 pub has-child-spec : {M : Type 1} → statement M
 has-child-spec = tie.close (tie.spec count-requires returns)

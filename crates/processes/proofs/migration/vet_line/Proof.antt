@@ -12,8 +12,8 @@ is-too-long-requires c κs = search needs
 returns : tie.Need-returns
 returns c = let s = c .before .before .before in line-long (view (s .args .tree .now)) (s .args .line .now) _ (c .before .is-too-long .ensures) (c .if1 .taken)
 
-read-number-line-requires : tie.Need-read-number-line-requires
-read-number-line-requires c κs = search needs
+parse-number-line-requires : tie.Need-parse-number-line-requires
+parse-number-line-requires c κs = search needs
 
 enum-known-number : tie.Need-enum-known-number
 enum-known-number c = search needs
@@ -31,7 +31,7 @@ returns-2 c =
     let r = n .before .before in
     let l = r .before .before in
     let s = l .before .before in
-    line-figure (view (s .args .tree .now)) (s .args .line .now) _ (l .is-too-long .ensures) (r .before .if1 .left) _ (r .read-number-line .ensures) _ (n .number .given .1) _ (c .vet-number .ensures)
+    line-figure (view (s .args .tree .now)) (s .args .line .now) _ (l .is-too-long .ensures) (r .before .if1 .left) _ (r .parse-number-line .ensures) _ (n .number .given .1) _ (c .vet-number .ensures)
 
 -- 22: not one number word
 returns-3 : tie.Need-returns-3
@@ -39,7 +39,7 @@ returns-3 c =
     let r = c .before .before in
     let l = r .before .before in
     let s = l .before .before in
-    line-malformed (view (s .args .tree .now)) (s .args .line .now) _ (l .is-too-long .ensures) (r .before .if1 .left) _ (r .read-number-line .ensures) (c .enum-told .given .1)
+    line-malformed (view (s .args .tree .now)) (s .args .line .now) _ (l .is-too-long .ensures) (r .before .if1 .left) _ (r .parse-number-line .ensures) (c .enum-told .given .1)
 
 pub vet-line-spec : {M : Type 1} → statement M
 vet-line-spec =
@@ -47,7 +47,7 @@ vet-line-spec =
     (tie.spec
     is-too-long-requires
     returns
-    read-number-line-requires
+    parse-number-line-requires
     enum-known-number
     vet-number-requires
     enum-told

@@ -7,21 +7,16 @@ use lib.ListN.{length, getD, List·getD-append, List·getD-map}
 use lib.Seq.{getD-append-add}
 use borrow.Author.Needs.{needs}
 use Rattle.model.specs.Names.{settings, coreFiles, controllerFiles}
-use Rattle.model.specs.declared.File.{File}
 use Rattle.model.specs.declared.File.the-variants.{Value}
 use Rattle.model.specs.declared.Setting.the-variants.{CpuWeight}
-use Rattle.text.specs.Name.{fileAt}
+use Rattle.text.specs.Name.{firstFile, fileAt}
 use Rattle.text.proofs.name.file_at.Statement.{statement}
 use Rattle.text.proofs.name.file_at.Tie as tie
 
--- what stands beyond every list
-abbrev first : File
-first = Value CpuWeight
-
-after-settings : (i : ℕ) → length settings ≤ i → getD (coreFiles ++ controllerFiles) (i - length settings) first ≡ fileAt i
+after-settings : (i : ℕ) → length settings ≤ i → getD (coreFiles ++ controllerFiles) (i - length settings) firstFile ≡ fileAt i
 after-settings i l =
     let e : length (map Value settings) + (i - length settings) ≡ i = omega arith in
-    sym (getD-append-add (map Value settings) (coreFiles ++ controllerFiles) (i - length settings) first) ∙ ap fileAt e
+    sym (getD-append-add (map Value settings) (coreFiles ++ controllerFiles) (i - length settings) firstFile) ∙ ap fileAt e
 
 setting-at-requires : tie.Need-setting-at-requires
 setting-at-requires c κs = search needs
@@ -31,7 +26,7 @@ returns : tie.Need-returns
 returns c =
     let i = c .before .before .args .i in
     ap Value (c .setting-at .ensures)
-    ∙ sym (List·getD-append (map Value settings) (coreFiles ++ controllerFiles) first i (omega arith) ∙ List·getD-map Value settings i CpuWeight)
+    ∙ sym (List·getD-append (map Value settings) (coreFiles ++ controllerFiles) firstFile i (omega arith) ∙ List·getD-map Value settings i CpuWeight)
 
 core-file-at-requires : tie.Need-core-file-at-requires
 core-file-at-requires c κs = search needs
@@ -41,7 +36,7 @@ returns-2 : tie.Need-returns-2
 returns-2 c =
     let i = c .before .before .before .args .i in
     c .core-file-at .ensures
-    ∙ sym (List·getD-append coreFiles controllerFiles first (i - length settings) (omega arith))
+    ∙ sym (List·getD-append coreFiles controllerFiles firstFile (i - length settings) (omega arith))
     ∙ after-settings i (omega arith)
 
 controller-file-at-requires : tie.Need-controller-file-at-requires
@@ -54,8 +49,8 @@ returns-3 c =
     let k = i - length settings in
     let e : length coreFiles + (k - length coreFiles) ≡ k = omega arith in
     c .controller-file-at .ensures
-    ∙ sym (getD-append-add coreFiles controllerFiles (k - length coreFiles) first)
-    ∙ ap (λ (n : ℕ). getD (coreFiles ++ controllerFiles) n first) e
+    ∙ sym (getD-append-add coreFiles controllerFiles (k - length coreFiles) firstFile)
+    ∙ ap (λ (n : ℕ). getD (coreFiles ++ controllerFiles) n firstFile) e
     ∙ after-settings i (omega arith)
 
 pub file-at-spec : {M : Type 1} → statement M

@@ -7,10 +7,8 @@ use mathlib.Core.Path.{ap, _∙_}
 use lib.ListN.{length, List·getD-map}
 use borrow.Author.Needs.{needs}
 use Rattle.model.specs.Text.{sameBytes, joined}
-use Rattle.model.specs.Names.{settingName, fileName, files}
-use Rattle.model.specs.declared.Setting.the-variants.{CpuWeight}
-use Rattle.model.specs.declared.File.the-variants.{Value}
-use Rattle.text.specs.Name.{fileAt}
+use Rattle.model.specs.Names.{fileName, files}
+use Rattle.text.specs.Name.{firstFile, fileAt}
 use Rattle.text.proofs.NameLaws.{Tried, tried-none, tried-next, tried-found, tried-all, NameAt, name-at, startsFrom}
 use Rattle.text.proofs.name.file_place.Statement.{statement}
 use Rattle.text.proofs.name.file_place.Tie as tie
@@ -23,7 +21,7 @@ abbrev μ-loop : tie.MeasureT-loop
 
 -- the code's text and the places in it are those of the files' names
 file-name-at : (i : ℕ) → i < length files → NameAt (joined (map fileName files)) (startsFrom 0 (map fileName files)) (fileName (fileAt i)) i (i + 1)
-file-name-at i l = rw (← List·getD-map fileName files i (Value CpuWeight)) (name-at (map fileName files) i (settingName CpuWeight) l)
+file-name-at i l = rw (← List·getD-map fileName files i firstFile) (name-at (map fileName files) i (fileName firstFile) l)
 
 slice-aggregate-names : tie.Need-slice-aggregate-names Inv-loop μ-loop
 slice-aggregate-names c = search needs
@@ -66,7 +64,7 @@ unfolding joined
 returns c =
     let l = c .before .before .before .before in
     let w = l .before .before .before .args .file .now in
-    tried-found (l .loop .inv .1) (Value CpuWeight) (omega arith)
+    tried-found (l .loop .inv .1) firstFile (omega arith)
     (c .before .is-same .ensures ∙ ap (sameBytes w) (file-name-at (l .loop .i) (omega arith) .part)) (c .if1 .taken)
 
 loop-less : tie.Need-loop-less Inv-loop μ-loop
@@ -78,7 +76,7 @@ loop-again c =
     let l = c .before .before .before .before in
     let w = l .before .before .before .args .file .now in (
       omega arith,
-      tried-next (l .loop .inv .1) (Value CpuWeight) (omega arith)
+      tried-next (l .loop .inv .1) firstFile (omega arith)
           (c .before .is-same .ensures ∙ ap (sameBytes w) (file-name-at (l .loop .i) (omega arith) .part)) (c .if1 .left),
     )
 

@@ -2,7 +2,7 @@
 -- Assumes nothing.
 use native.Mathlib.Omega.{arith}
 use borrow.Author.Needs.{needs}
-use Rattle.text.proofs.WriteLaws.{delivered-short, delivered-whole}
+use Rattle.text.proofs.WriteLaws.{delivers-short, delivers-whole}
 use Rattle.text.proofs.write.deliver.Statement.{statement}
 use Rattle.text.proofs.write.deliver.Tie as tie
 
@@ -10,7 +10,7 @@ use Rattle.text.proofs.write.deliver.Tie as tie
 returns : tie.Need-returns
 returns c =
     let a = c .before .before .before .args in
-    delivered-short (a .text .now) (a .buf .now) (c .if1 .taken)
+    delivers-short (a .text .now) (a .buf .now) (c .if1 .taken)
 
 copy-requires : tie.Need-copy-requires
 copy-requires c κs = search needs
@@ -23,7 +23,7 @@ returns-2 : tie.Need-returns-2
 returns-2 c =
     let k = c .before .before in
     let a = k .before .before .before .before .before .args in
-    delivered-whole (a .text .now) (a .buf .now) _ _ (omega arith) (k .copy .ensures)
+    delivers-whole (a .text .now) (a .buf .now) _ _ (omega arith) (k .copy .ensures)
 
 pub deliver-spec : {M : Type 1} → statement M
 deliver-spec = tie.close (tie.spec returns copy-requires same-length returns-2)

@@ -1,9 +1,9 @@
--- `text::value::read_limit` meets its contract: a limit is "max" or a number. Assumes nothing.
+-- `text::value::parse_limit` meets its contract: a limit is "max" or a number. Assumes nothing.
 use mathlib.Core.Path.{sym, _∙_}
 use borrow.Author.Needs.{needs}
 use Rattle.text.proofs.ValueLaws.{limit-max, limit-number}
-use Rattle.text.proofs.value.read_limit.Statement.{statement}
-use Rattle.text.proofs.value.read_limit.Tie as tie
+use Rattle.text.proofs.value.parse_limit.Statement.{statement}
+use Rattle.text.proofs.value.parse_limit.Tie as tie
 
 slice-aggregate-is-same : tie.Need-slice-aggregate-is-same
 slice-aggregate-is-same c = search needs
@@ -15,8 +15,8 @@ is-same-requires c κs = search needs
 returns : tie.Need-returns
 returns c = let a = c .before .before .before .before .args in limit-max (a .word .now) (sym (c .before .is-same .ensures) ∙ c .if1 .taken)
 
-read-number-requires : tie.Need-read-number-requires
-read-number-requires c κs = search needs
+parse-number-requires : tie.Need-parse-number-requires
+parse-number-requires c κs = search needs
 
 enum-known-number : tie.Need-enum-known-number
 enum-known-number c = search needs
@@ -31,7 +31,7 @@ returns-2 c =
     let e = n .before in
     let a = e .before .before .before .before .args in
     limit-number (a .word .now) (sym (e .before .is-same .ensures) ∙ e .if1 .left) _
-    (sym (c .enum-told .given .1) ∙ n .read-number .ensures)
+    (sym (c .enum-told .given .1) ∙ n .parse-number .ensures)
 
 -- a figure
 returns-3 : tie.Need-returns-3
@@ -40,16 +40,16 @@ returns-3 c =
     let e = n .before in
     let a = e .before .before .before .before .args in
     limit-number (a .word .now) (sym (e .before .is-same .ensures) ∙ e .if1 .left) _
-    (sym (c .before .number .given .1) ∙ n .read-number .ensures)
+    (sym (c .before .number .given .1) ∙ n .parse-number .ensures)
 
-pub read-limit-spec : {M : Type 1} → statement M
-read-limit-spec =
+pub parse-limit-spec : {M : Type 1} → statement M
+parse-limit-spec =
     tie.close
     (tie.spec
     slice-aggregate-is-same
     is-same-requires
     returns
-    read-number-requires
+    parse-number-requires
     enum-known-number
     enum-told
     returns-2

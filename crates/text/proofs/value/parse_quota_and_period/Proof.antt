@@ -1,12 +1,12 @@
--- `text::value::read_quota_and_period` meets its contract: the limit and the number decide. Assumes nothing.
+-- `text::value::parse_quota_and_period` meets its contract: the limit and the number decide. Assumes nothing.
 use mathlib.Core.Path.{refl, sym, _∙_}
 use borrow.Author.Needs.{needs}
 use Rattle.text.proofs.ValueLaws.{bandwidth-read}
-use Rattle.text.proofs.value.read_quota_and_period.Statement.{statement}
-use Rattle.text.proofs.value.read_quota_and_period.Tie as tie
+use Rattle.text.proofs.value.parse_quota_and_period.Statement.{statement}
+use Rattle.text.proofs.value.parse_quota_and_period.Tie as tie
 
-read-limit-requires : tie.Need-read-limit-requires
-read-limit-requires c κs = search needs
+parse-limit-requires : tie.Need-parse-limit-requires
+parse-limit-requires c κs = search needs
 
 enum-known-quota : tie.Need-enum-known-quota
 enum-known-quota c = search needs
@@ -19,10 +19,10 @@ returns : tie.Need-returns
 returns c =
     let q = c .before .before in
     let a = q .before .before .before .args in
-    bandwidth-read (a .first .now) (a .second .now) _ _ (sym (c .enum-told .given .1) ∙ q .read-limit .ensures) refl
+    bandwidth-read (a .first .now) (a .second .now) _ _ (sym (c .enum-told .given .1) ∙ q .parse-limit .ensures) refl
 
-read-number-requires : tie.Need-read-number-requires
-read-number-requires c κs = search needs
+parse-number-requires : tie.Need-parse-number-requires
+parse-number-requires c κs = search needs
 
 enum-known-period : tie.Need-enum-known-period
 enum-known-period c = search needs
@@ -38,7 +38,7 @@ returns-2 c =
     let q = k .before .before in
     let a = q .before .before .before .args in
     bandwidth-read (a .first .now) (a .second .now) _ _
-    (sym (k .quota .given .1) ∙ q .read-limit .ensures) (sym (c .enum-told2 .given .1) ∙ p .read-number .ensures)
+    (sym (k .quota .given .1) ∙ q .parse-limit .ensures) (sym (c .enum-told2 .given .1) ∙ p .parse-number .ensures)
 
 returns-3 : tie.Need-returns-3
 returns-3 c =
@@ -47,17 +47,17 @@ returns-3 c =
     let q = k .before .before in
     let a = q .before .before .before .args in
     bandwidth-read (a .first .now) (a .second .now) _ _
-    (sym (k .quota .given .1) ∙ q .read-limit .ensures) (sym (c .before .period .given .1) ∙ p .read-number .ensures)
+    (sym (k .quota .given .1) ∙ q .parse-limit .ensures) (sym (c .before .period .given .1) ∙ p .parse-number .ensures)
 
-pub read-quota-and-period-spec : {M : Type 1} → statement M
-read-quota-and-period-spec =
+pub parse-quota-and-period-spec : {M : Type 1} → statement M
+parse-quota-and-period-spec =
     tie.close
     (tie.spec
-    read-limit-requires
+    parse-limit-requires
     enum-known-quota
     enum-told
     returns
-    read-number-requires
+    parse-number-requires
     enum-known-period
     enum-told-2
     returns-2

@@ -1,4 +1,4 @@
--- `text::number::read_number` meets its contract: the digits from `i` on, after those passed, make the number of the
+-- `text::number::parse_number` meets its contract: the digits from `i` on, after those passed, make the number of the
 -- word, and a number only grows by more of them. The measure is what is left of the word. Assumes nothing.
 use Prim.Native.Nat.{ℕ, _-_, _^_, _≤_, _<_}
 use mathlib.Core.List.{List}
@@ -9,8 +9,8 @@ use borrow.Author.Needs.{needs}
 use borrow.Author.Tests.{not-true, not-false}
 use Rattle.model.specs.Text.{numberWord}
 use Rattle.text.proofs.NumberLaws.{Left, left-none, left-whole, left-byte, left-over, left-more, left-end}
-use Rattle.text.proofs.number.read_number.Statement.{statement}
-use Rattle.text.proofs.number.read_number.Tie as tie
+use Rattle.text.proofs.number.parse_number.Statement.{statement}
+use Rattle.text.proofs.number.parse_number.Tie as tie
 
 abbrev Inv-loop : tie.InvT-loop
 Inv-loop word value₀ i₀ value i = (i ≤ length word) × (value < 2 ^ 64) × Left word i value
@@ -92,8 +92,8 @@ returns-3 c =
     let l = c .before in
     left-end (word-of l) (l .loop .i) (l .loop .value) (l .loop .inv .2) (omega arith) (omega arith)
 
-pub read-number-spec : {M : Type 1} → statement M
-read-number-spec =
+pub parse-number-spec : {M : Type 1} → statement M
+parse-number-spec =
     tie.close
     (tie.spec
     Inv-loop
