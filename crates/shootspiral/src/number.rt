@@ -13,7 +13,7 @@ use model::RoomAnswer;
 // Told where no group is named.
 pub const NO_GROUP: u64 = 18446744073709551615;
 
-pub fn errno_number(e: Errno) -> u32
+fn errno_number(e: Errno) -> u32
     ensures { λ r. ⌜ r ≡ errnoNumber e ⌝ }
 {
     match e {

@@ -64,7 +64,7 @@ pub fn line_end(line: &[u8]) -> usize
 }
 
 // The end of the word that starts at `at`: `at` itself where a space or the end stands there.
-pub fn word_end(text: &[u8], at: usize) -> usize
+fn word_end(text: &[u8], at: usize) -> usize
     requires { ⌜ at ≤ length (now text) ⌝ }
     ensures { λ r. ⌜ WordEnd (now (text .entry)) at r ⌝ }
 {
