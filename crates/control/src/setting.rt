@@ -49,8 +49,8 @@ fn vet_value(setting: Setting, line: &[u8]) -> Given
     if is_too_long(line) {
         return Given::Refused(Errno::Einval);
     }
-    let read = parse_value(setting, line);
-    match read {
+    let parsed = parse_value(setting, line);
+    match parsed {
         LineValue::Malformed => Given::Refused(Errno::Einval),
         LineValue::Of(value) => {
             if !is_in_range(value) {

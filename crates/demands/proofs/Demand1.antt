@@ -11,7 +11,7 @@ use Rattle.demands.proofs.Texts.{undelivered}
 away : {xs ys : List ℕ} {c : Call} {n : ℕ} → Answered xs ys c n → n ≢ 0 → TurnedAway xs ys c n
 away a ne =
     let r = answered-refused a ne in
-    record { errno = r .0; refused = r .1; number = r .2; words = refused-words a ne }
+    record { errno = r .0; refused = r .1; number = r .2; unchanged = refused-words a ne }
 
 pub demand-1-of-the-code : Demand1
 demand-1-of-the-code = record { away = away; text = λ a t ne. undelivered a ne t }

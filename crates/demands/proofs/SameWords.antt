@@ -11,7 +11,7 @@ pub same-words : SameWords
 same-words =
     record {
       fresh = λ f g. one-form _ _ (f .kept) (g .kept) (f .tree ∙ sym (g .tree));
-      words = λ r s t c.
+      same = λ r s t c.
           let f = followed r in
           let g = followed s in
           one-form _ _ (f .kept) (g .kept) (f .tree ∙ ap₂ run t c ∙ sym (g .tree));

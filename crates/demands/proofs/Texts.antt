@@ -22,12 +22,12 @@ pub undelivered : {xs ys told bytes : List ℕ} {c : Call} {n : ℕ} → Answere
 undelivered {xs} {c = c} a ne t =
     let r = answered-refused a ne in
     let d : D.TurnedAway (view xs) c (r .0) = demands .first .refused (view xs) c (r .0) (r .1) in
-    record { size = t .told ∙ ap (λ k. k ∷ []) (d .told); bytes = t .buffer ∙ d .buffer }
+    record { size = t .size ∙ ap (λ k. k ∷ []) (d .size); bytes = t .buffer ∙ d .buffer }
 
 text-done : (v : Answer) (text buffer : List ℕ) {told bytes : List ℕ} → v ≡ Done → Told (textReply v text buffer) told bytes → FindsText text buffer told bytes
 text-done v text buffer {told} {bytes} e t =
     let u : Told (textReply Done text buffer) told bytes = subst (λ (x : Answer). Told (textReply x text buffer) told bytes) e t in
-    record { size = u .told; bytes = u .buffer }
+    record { size = u .size; bytes = u .buffer }
 
 module _ {xs ys buffer told bytes : List ℕ} {n : ℕ} where
   pub delivered-file : (g : ℕ) (file : List ℕ) → Answered xs ys (read g file buffer) n → n ≡ 0

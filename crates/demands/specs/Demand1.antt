@@ -19,7 +19,7 @@ pub record TurnedAway (xs ys : List ℕ) (c : Call) (n : ℕ) : Type 0 where
   pub errno : Errno
   pub refused : verdict (view xs) c ≡ Refused errno
   pub number : n ≡ errnoNumber errno
-  pub words : ys ≡ xs
+  pub unchanged : ys ≡ xs
 
 pub record Demand1 : Type 0 where
   pub away : {xs ys : List ℕ} {c : Call} {n : ℕ} → Answered xs ys c n → n ≢ 0 → TurnedAway xs ys c n

@@ -10,7 +10,7 @@ use Rattle.demands.specs.Runs.{Runs, callsOf}
 
 pub record SameWords : Type 0 where
   pub fresh : {m : ℕ} {xs us : List ℕ} → Fresh m xs → Fresh m us → xs ≡ us
-  pub words : {xs ys us vs : List ℕ} {es fs : List Entry} → Runs xs es ys → Runs us fs vs → view xs ≡ view us → callsOf es ≡ callsOf fs
+  pub same : {xs ys us vs : List ℕ} {es fs : List Entry} → Runs xs es ys → Runs us fs vs → view xs ≡ view us → callsOf es ≡ callsOf fs
       → ys ≡ vs
   pub numbers : {xs ys us vs : List ℕ} {es fs : List Entry} → Runs xs es ys → Runs us fs vs → view xs ≡ view us → callsOf es ≡ callsOf fs
       → es ≡ fs

@@ -21,7 +21,7 @@ use Rattle.model.specs.Lists.{log}
 use Rattle.model.specs.Totals.{total}
 use Rattle.model.specs.Worked.{Evening, holds, allHold, table, limitsAndCharges, allBooked, marks, rewriting, rewritten, totals}
 
--- `allHold` with everything open that a row computes with: whoever unfolds it unfolds the whole line
+-- `allHold` with everything open that an exchange computes with: whoever unfolds it unfolds the whole line
 unfoldable pub computed : List Evening → Bool
 unfolding upd weigh sum any member first climb chain inside firstCommon commonAncestor held usage population sameBytes joined body leadingWord startsIn words digitsFrom numberWord digits decimal spaced named isControlWord askedBy askedFrom firstBad badRest anyIn limitWord valueOf inRange assign shown valueText reset actingLimit consult hasChild hasProcess heldByChild oneWord processLines namesOf nameLine contents path membershipLine chargeChecks forkChecks checks verdict effect step fresh run chargeAnswer forkAnswer reply replyBy holds allHold
 computed es = allHold es

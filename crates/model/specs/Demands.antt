@@ -55,7 +55,7 @@ pub record TurnedAway (t : Tree) (c : Call) (e : Errno) : Type 0 where
   pub number : reply t c .number ≡ errnoNumber e
   pub tree : step t c ≡ t
   pub buffer : reply t c .buffer ≡ bufferOf c
-  pub told : reply t c .told ≡ 0
+  pub size : reply t c .size ≡ 0
 
 pub record Demand1 : Type 0 where
   pub refused : (t : Tree) (c : Call) (e : Errno) → verdict t c ≡ Refused e → TurnedAway t c e

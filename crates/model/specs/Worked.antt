@@ -27,7 +27,7 @@ pub record Exchange : Type 0 where
   pub expected : Reply
 
 abbrev pub exchange : Call → ℕ → Option ℕ → ℕ → ℕ → List ℕ → Exchange
-exchange c n g k l b = record { call = c; expected = record { number = n; group = g; consulted = k; told = l; buffer = b } }
+exchange c n g k l b = record { call = c; expected = record { number = n; group = g; consulted = k; size = l; buffer = b } }
 
 -- success, or a number, with nothing to tell
 abbrev pub succeeds : Call → Exchange
@@ -87,7 +87,7 @@ abbrev pub sameReply : Reply → Reply → Bool
 sameReply a b =
     eqb (a .number) (b .number)
     && (sameOption (a .group) (b .group)
-    && (eqb (a .consulted) (b .consulted) && (eqb (a .told) (b .told) && sameBytes (a .buffer) (b .buffer))))
+    && (eqb (a .consulted) (b .consulted) && (eqb (a .size) (b .size) && sameBytes (a .buffer) (b .buffer))))
 
 unfoldable pub holds : Tree → List Exchange → Bool
 holds t [] = true

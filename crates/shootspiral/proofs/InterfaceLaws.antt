@@ -58,7 +58,7 @@ module _ {xs : List ℕ} {g : ℕ} {file old new : List ℕ} {a : ReadAnswer} (r
 
   pub read-told : {k : ℕ} → k ≡ readLength a → Told (reply (view xs) (read g file old)) (k ∷ []) new
   unfolding reply replyBy verdict
-  read-told f = record { told = ap (λ x. x ∷ []) (f ∙ ap readLength (r .answer)); buffer = r .buffer }
+  read-told f = record { size = ap (λ x. x ∷ []) (f ∙ ap readLength (r .answer)); buffer = r .buffer }
 
 module _ {xs : List ℕ} {p : ℕ} {old new : List ℕ} {a : ReadAnswer} (r : Delivering xs (membership p old) a new) where
   pub membership-number : {n : ℕ} → Kept xs → n ≡ readNumber a → Answered xs xs (membership p old) n
@@ -67,4 +67,4 @@ module _ {xs : List ℕ} {p : ℕ} {old new : List ℕ} {a : ReadAnswer} (r : De
 
   pub membership-told : {k : ℕ} → k ≡ readLength a → Told (reply (view xs) (membership p old)) (k ∷ []) new
   unfolding reply replyBy verdict
-  membership-told f = record { told = ap (λ x. x ∷ []) (f ∙ ap readLength (r .answer)); buffer = r .buffer }
+  membership-told f = record { size = ap (λ x. x ∷ []) (f ∙ ap readLength (r .answer)); buffer = r .buffer }

@@ -20,6 +20,6 @@ abbrev pub partWords : Part → List ℕ
 partWords p = p .start ∷ p .size ∷ []
 
 -- what a call that delivers a text tells beside its number: the length, and every byte of the reply buffer
-pub record Told (r : Reply) (words bytes : List ℕ) : Type 0 where
-  pub told : words ≡ r .told ∷ []
+pub record Told (r : Reply) (told bytes : List ℕ) : Type 0 where
+  pub size : told ≡ r .size ∷ []
   pub buffer : bytes ≡ r .buffer

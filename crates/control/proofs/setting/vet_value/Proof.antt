@@ -20,8 +20,8 @@ use Rattle.control.proofs.setting.vet_value.Tie as tie
 abbrev value-of : tie.After-parse-value → Option SettingValue
 value-of r = let a = r .before .before .before .before .args in valueOf (a .setting) (lineWords (a .line .now))
 
-found : (k : tie.After-known-told) → LineValue.Of (k .before .read .given .0 .0) ≡ asLineValue (value-of (k .before .before .before))
-found k = sym (k .before .read .given .1) ∙ k .before .before .before .parse-value .ensures
+found : (k : tie.After-known-told) → LineValue.Of (k .before .parsed .given .0 .0) ≡ asLineValue (value-of (k .before .before .before))
+found k = sym (k .before .parsed .given .1) ∙ k .before .before .before .parse-value .ensures
 
 formed : (k : tie.After-known-told) → known (value-of (k .before .before .before)) ≡ true
 formed k = is-known (value-of (k .before .before .before)) _ (found k)
@@ -43,8 +43,8 @@ parse-value-requires c κs = search needs
 enum-told : tie.Need-enum-told
 enum-told c = search needs
 
-enum-known-read : tie.Need-enum-known-read
-enum-known-read c = search needs
+enum-known-parsed : tie.Need-enum-known-parsed
+enum-known-parsed c = search needs
 
 is-in-range-requires : tie.Need-is-in-range-requires
 is-in-range-requires c κs = search needs
@@ -85,7 +85,7 @@ vet-value-spec =
     returns
     parse-value-requires
     enum-told
-    enum-known-read
+    enum-known-parsed
     is-in-range-requires
     returns-2
     returns-3
