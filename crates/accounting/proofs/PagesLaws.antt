@@ -1,13 +1,13 @@
 -- Own pages and running sums changed together: after n pages more and m less in one group the sums above it are the usage.
 -- Once for what comes and what goes. Assumes nothing.
-use Prim.Native.Nat.{ℕ, _+_, _-_, _^_, _≤_, _<_}
+use Prim.Native.Nat.{ℕ, _+_, _-_, _<_}
 use native.Mathlib.Omega.{arith}
 use mathlib.Core.Bool.{Bool}
 use mathlib.Core.List.{List}
 use mathlib.Core.Path.{_≡_, refl, ap, sym, _∙_}
 use Rattle.model.specs.Functions.{upd, weigh}
-use Rattle.model.specs.Sizes.{groups, largestCharge}
-use Rattle.model.specs.Tree.{Core, Group, withOwn, withCore, cores, parents, places}
+use Rattle.model.specs.Sizes.{groups}
+use Rattle.model.specs.Tree.{Tree, Core, Group, withOwn, withCore, cores, parents, places}
 use Rattle.model.specs.Hierarchy.{inside, usage}
 use Rattle.model.specs.Calls.{Call, verdict}
 use Rattle.model.specs.Effects.{effect}
@@ -16,7 +16,7 @@ use Rattle.model.specs.declared.Answer.the-variants.{Done}
 use Rattle.model.proofs.FunctionLaws.{upd-keeps, upd-map}
 use Rattle.model.proofs.AmountLaws.{usage-after-adjust, population-same, own-within-usage}
 use Rattle.tree.specs.Layout.{view, sumIn}
-use Rattle.tree.specs.Changes.{Wrote, Adjusted, ownSet}
+use Rattle.tree.specs.Changes.{Wrote, Adjusted}
 use Rattle.tree.specs.Counters.{Adjustable}
 use Rattle.tree.specs.Kept.{countOf, Kept}
 use Rattle.tree.specs.Calling.{Applied}
@@ -27,25 +27,32 @@ use Rattle.tree.proofs.AdjustLaws.{counters-apart}
 use Rattle.tree.proofs.CountLaws.{children-same}
 use Rattle.tree.proofs.RoomCallLaws.{sum-after-adjust}
 use Rattle.tree.proofs.CallLaws.{applied-as}
-use Rattle.accounting.specs.Pages.{pagesSet, PagesAdjustable, PagesAdjusted}
+use Rattle.accounting.specs.Pages.{pagesSet, OwnAdjustable, PagesAdjustable, PagesAdjusted}
 
 module _ (xs : List ℕ) (g n m : ℕ) (p : PagesAdjustable xs g n m) where
-  pub group-low : g < groups
+  group-low : g < groups
   group-low = p .home .kept .formed .sound .range g (p .home .live)
 
-  pub own-fits : view xs .group g .core .own + n < 2 ^ 64
-  own-fits = omega (arith, own-small xs (p .home .kept) g (p .home .live), p .few)
+  pub sums-adjustable : Adjustable xs (Of Pages) g n m
+  sums-adjustable =
+      adjustable xs (p .home .kept) g (p .home .live) (Of Pages) n m (p .few)
+      (λ a on. omega (arith, own-within-usage (cores (view xs)) a g group-low (p .home .live) on, p .enough))
 
-  pub sums-adjustable : (i j : ℕ) → i ≤ largestCharge → j ≤ view xs .group g .core .own → Adjustable xs (Of Pages) g i j
-  sums-adjustable i j few enough =
-      adjustable xs (p .home .kept) g (p .home .live) (Of Pages) i j few
-      (λ a on. omega (arith, own-within-usage (cores (view xs)) a g group-low (p .home .live) on))
+  -- the sums first
+  module _ (ys : List ℕ) (adjusted : Adjusted xs ys (Of Pages) g n m) where
+    pub own-adjustable : OwnAdjustable ys g n m
+    own-adjustable =
+        let same : view ys .group g .core .own ≡ view xs .group g .core .own = ap (λ (t : Tree). t .group g .core .own) (adjusted .tree) in
+        record {
+          row = record { long = adjusted .long; low = group-low };
+          fits = omega (arith, same, own-small xs (p .home .kept) g (p .home .live), p .few);
+          enough = omega (arith, same, p .enough);
+        }
 
-  -- the sums first, then the own pages
-  module _ (ys zs : List ℕ) (v : ℕ) (adjusted : Adjusted xs ys (Of Pages) g n m) (wrote : Wrote ys zs (ownSet (view ys) g v))
-      (e : v ≡ view xs .group g .core .own + n - m) where
+  -- then the own pages
+  module _ (ys zs : List ℕ) (adjusted : Adjusted xs ys (Of Pages) g n m) (wrote : Wrote ys zs (pagesSet (view ys) g n m)) where
     pages-tree : view zs ≡ pagesSet (view xs) g n m
-    pages-tree = wrote .tree ∙ rw e (ap (λ u. ownSet u g (view xs .group g .core .own + n - m)) (adjusted .tree))
+    pages-tree = wrote .tree ∙ ap (λ (t : Tree). pagesSet t g n m) (adjusted .tree)
 
     kept-by : {A : Type 0} (F : Group → A) → F (withCore (withOwn (view xs .group g .core .own + n - m) (view xs .group g .core)) (view xs .group g)) ≡ F (view xs .group g)
         → (a : ℕ) → F (pagesSet (view xs) g n m .group a) ≡ F (view xs .group a)
@@ -60,7 +67,7 @@ module _ (xs : List ℕ) (g n m : ℕ) (p : PagesAdjustable xs g n m) where
         rw (p .home .kept .sums (Of Pages) a)
         (usage-after-adjust s g n m group-low (p .home .live) (omega (arith, p .enough)) a) in
         let same : sumIn ys (Of Pages) a ≡ usage after a =
-        omega (arith, sum-after-adjust xs ys g (Of Pages) n m adjusted (sums-adjustable n m (p .few) (p .enough) .enough) a, u) in
+        omega (arith, sum-after-adjust xs ys g (Of Pages) n m adjusted (sums-adjustable .enough) a, u) in
         wrote .sums (Of Pages) a ∙ same
         ∙ ap (λ (k : ℕ → Core). usage k a) (sym (upd-map (λ (x : Group). x .core) (view xs .group) g _))
     sums-after (Of Processes) a =

@@ -1,4 +1,5 @@
-// Charge: pages for the group of a process. The search for room comes before the first store, so there is nothing to undo.
+// Charge: pages for the group of a process. Its chain is built once; the search for room along it comes before the first store, so
+// there is nothing to undo.
 ghost use mathlib.Core.Path.{_≡_};
 ghost use Rattle.model.specs.Checks.{first};
 ghost use Rattle.model.specs.Calls.{chargeChecks};
@@ -7,7 +8,7 @@ ghost use Rattle.tree.specs.Layout.{view};
 ghost use Rattle.tree.specs.Kept.{Kept};
 ghost use Rattle.tree.specs.Calling.{Asked};
 use super::pages::LARGEST_CHARGE;
-use super::pages::adjust_pages;
+use super::pages::adjust_own;
 use model::Answer;
 use model::Errno;
 use model::ProcessId;
@@ -15,7 +16,7 @@ use model::Resource;
 use model::RoomAnswer;
 use tree::chain::chain_of;
 use tree::counter::Search;
-use tree::counter::first_full;
+use tree::counter::try_charge;
 use tree::layout::PROCESSES;
 use tree::layout::Tree;
 use tree::process::is_process;
@@ -53,11 +54,11 @@ pub fn charge(tree: &mut Tree, process: ProcessId, pages: u64) -> RoomAnswer
     }
     let group = process_group(tree, process);
     let chain = chain_of(tree, group);
-    let found = first_full(tree, chain, Resource::Pages, pages);
+    let found = try_charge(tree, chain, Resource::Pages, pages);
     let count = match found {
         Search::Fits(count) => count,
         Search::Full(stop, place) => return RoomAnswer::NoRoom(stop, place),
     };
-    adjust_pages(tree, group, pages, 0);
+    adjust_own(tree, group, pages, 0);
     RoomAnswer::Granted(count)
 }

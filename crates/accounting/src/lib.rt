@@ -2,4 +2,4 @@
 // same words where it refuses.
 pub mod charge; // pages for a process's group, where every group above has room
 pub mod release; // pages given back by a group
-mod pages; // own pages and running sums together
+mod pages; // own pages

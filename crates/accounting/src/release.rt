@@ -5,14 +5,17 @@ ghost use Rattle.tree.specs.Layout.{view};
 ghost use Rattle.tree.specs.Kept.{Kept};
 ghost use Rattle.tree.specs.Calling.{Called};
 use super::pages::LARGEST_CHARGE;
-use super::pages::adjust_pages;
+use super::pages::adjust_own;
 use model::Answer;
 use model::Errno;
 use model::GroupId;
+use model::Resource;
+use tree::counter::adjust_up;
 use tree::group::is_live;
 use tree::group::own;
 use tree::layout::GROUPS;
 use tree::layout::Tree;
+use tree::sum::Counter;
 
 // 22 the group's number out of range, or pages outside 1 to 1048576; 2 not live; 34 more than its own pages.
 fn vet_release(tree: &Tree, group: GroupId, pages: u64) -> Answer
@@ -45,6 +48,7 @@ pub fn release(tree: &mut Tree, group: GroupId, pages: u64) -> Answer
     let Answer::Done = vetted else {
         return vetted;
     };
-    adjust_pages(tree, group, 0, pages);
+    adjust_up(tree, group, Counter::Of(Resource::Pages), 0, pages);
+    adjust_own(tree, group, 0, pages);
     Answer::Done
 }

@@ -5,7 +5,7 @@ use native.Mathlib.Omega.{arith}
 use mathlib.Core.Bool.{Bool, true, false}
 use mathlib.Core.List.{List, _++_}
 use mathlib.Core.Logic.{_≢_}
-use mathlib.Core.Path.{_≡_, refl, ap, sym, _∙_}
+use mathlib.Core.Path.{_≡_, refl, ap, sym, _∙_, subst}
 use lib.Dec.{ltb}
 use borrow.Author.Tests.{ltb-true, ltb-false, le-leb, lt-leb, eq-eqb, ne-eqb, not-true, not-false}
 use Rattle.model.specs.Functions.{known, orElse}
@@ -34,13 +34,14 @@ use Rattle.text.specs.Number.{clip, asNumber}
 use Rattle.text.specs.declared.number.Number.{Number}
 use Rattle.text.specs.declared.number.Number.the-variants.{Figure, NotANumber}
 use Rattle.tree.specs.Layout.{view}
-use Rattle.tree.specs.Counters.{listed, ChainOf}
+use Rattle.tree.specs.Counters.{listed, lowest, ChainOf}
 use Rattle.tree.specs.Kept.{Kept, KeptAt}
 use Rattle.tree.specs.Calling.{Calling}
 use Rattle.tree.specs.declared.chain.Chain.{Chain}
+use Rattle.tree.proofs.AlongLaws.{lowest-of}
 use Rattle.tree.proofs.CallLaws.{call-refused, call-done}
-use Rattle.processes.specs.Place.{Moving, Seated}
-use Rattle.processes.specs.Migration.{groupChecks, numberChecks, lineChecks, isClosed, moveChecks, namedBy}
+use Rattle.processes.specs.Place.{Moving, Between}
+use Rattle.processes.specs.Migration.{groupChecks, numberChecks, lineChecks, isClosed, moveChecks, namedBy, LeftBy, Migrated}
 use Rattle.processes.specs.declared.migration.Named.{Named}
 use Rattle.processes.proofs.PlaceLaws.{applied-seated}
 
@@ -120,15 +121,18 @@ module _ (t : Tree) (user p g : ℕ) where
         let c : a ≡ commonAncestor (parents t) (processGroup t p) g = f ∙ rw (h .groups, k .groups) in
         q ∙ rw (c, ne-eqb user 0 nz, ← e, eq-eqb user own y)
 
--- the common ancestor of both chains is in range
-pub ancestor-low : (xs : List ℕ) (p g : ℕ) (source target : Chain) → Moving xs p g → ChainOf (view xs) (processGroup (view xs) p) source
-    → ChainOf (view xs) g target → (a : ℕ) → a ≡ firstCommon (listed source) (listed target) → a < groups
-unfolding commonAncestor
-ancestor-low xs p g source target h from to a f =
-    let s = h .to .kept .formed .sound in
-    let o = h .from .home in
-    let c : a ≡ commonAncestor (parents (view xs)) (processGroup (view xs) p) g = f ∙ rw (from .groups, to .groups) in
-    rw c (s .range _ (inside-live s _ (processGroup (view xs) p) (o .live) (ancestor-of-left s (processGroup (view xs) p) g (o .live))))
+-- Between two chains: the one is that of the process's group, and their common ancestor is in range.
+module _ {xs : List ℕ} {p : ℕ} {source target : Chain} (h : Between xs p source target) where
+  pub between-from : ChainOf (view xs) (processGroup (view xs) p) source
+  between-from = subst (λ (g : ℕ). ChainOf (view xs) g source) (h .home) (h .from)
+
+  pub ancestor-low : (a : ℕ) → a ≡ firstCommon (listed source) (listed target) → a < groups
+  unfolding commonAncestor
+  ancestor-low a f =
+      let s = h .moving .to .kept .formed .sound in
+      let o = h .moving .from .home in
+      let c : a ≡ commonAncestor (parents (view xs)) (processGroup (view xs) p) (lowest target) = f ∙ rw (between-from .groups, h .to .groups) in
+      rw c (s .range _ (inside-live s _ (processGroup (view xs) p) (o .live) (ancestor-of-left s (processGroup (view xs) p) (lowest target) (o .live))))
 
 -- The inner-process rule.
 module _ (t : Tree) (g : ℕ) where
@@ -210,24 +214,36 @@ module _ {xs : List ℕ} {user g : ℕ} {line : List ℕ} {p : ProcessId} (v : L
         to = procs-target;
       }
 
-  -- what the move's checks say
-  module _ (a : Answer) (d : a ≡ first (moveChecks (view xs) user (p .0) g)) where
-    move-checks : a ≡ first (moveChecks (view xs) user (lineProcess line) g)
-    move-checks = d ∙ ap (λ (q : ℕ). first (moveChecks (view xs) user q g)) (v .number)
+  lowest-is : (target : Chain) → ChainOf (view xs) g target → lowest target ≡ g
+  lowest-is target to = lowest-of (view xs) (v .kept .formed .sound) g (procs-target .live) target to
 
-    -- refused by them
-    pub move-refused : (e : Errno) → a ≡ Refused e → Calling xs xs (writeProcs user g line) (verdict (view xs) (writeProcs user g line)) a
-    move-refused e q =
-        let w : verdict (view xs) (writeProcs user g line) ≡ Refused e =
-        procs-verdict xs (v .kept) user g line Done Done (Refused e) (v .target) (v .text) (sym q ∙ move-checks) in
-        call-refused xs (v .kept) (writeProcs user g line) _ _ e w (q ∙ sym w)
+  -- the chains are those of both groups
+  pub procs-between : (source target : Chain) → ChainOf (view xs) (processGroup (view xs) (p .0)) source → ChainOf (view xs) g target
+      → Between xs (p .0) source target
+  procs-between source target from to =
+      let home : lowest source ≡ processGroup (view xs) (p .0) =
+      lowest-of (view xs) (v .kept .formed .sound) _ (procs-moving .from .home .live) source from in
+      let here : lowest target ≡ g = lowest-is target to in
+      record { moving = rw here procs-moving; home = home; from = rw home from; to = rw here to }
 
-    -- done
-    pub moved : a ≡ Done → (ys : List ℕ) → Seated xs ys (p .0) (record { place = at g; user = view xs .process (p .0) .user })
-        → Calling xs ys (writeProcs user g line) (verdict (view xs) (writeProcs user g line)) Done
+  -- what the move left
+  module _ (ys : List ℕ) where
+    by-answer : (a : Answer) → Migrated xs ys user (p .0) g a → Calling xs ys (writeProcs user g line) (verdict (view xs) (writeProcs user g line)) a
     unfolding effect
-    moved q ys b =
-        let w : verdict (view xs) (writeProcs user g line) ≡ Done =
-        procs-verdict xs (v .kept) user g line Done Done Done (v .target) (v .text) (sym q ∙ move-checks) in
-        call-done xs (v .kept) (writeProcs user g line) w ys _ _
-        (applied-seated xs ys (writeProcs user g line) (p .0) _ (v .kept) w b (rw (v .number))) (sym w)
+    by-answer a m =
+        let same : a ≡ first (moveChecks (view xs) user (lineProcess line) g) =
+        m .answer ∙ ap (λ (q : ℕ). first (moveChecks (view xs) user q g)) (v .number) in
+        let w : verdict (view xs) (writeProcs user g line) ≡ a =
+        procs-verdict xs (v .kept) user g line Done Done a (v .target) (v .text) same in
+        by-verdict a w (m .left)
+      where
+        by-verdict : (a : Answer) → verdict (view xs) (writeProcs user g line) ≡ a → LeftBy xs ys (p .0) g a
+            → Calling xs ys (writeProcs user g line) (verdict (view xs) (writeProcs user g line)) a
+        by-verdict Done w b =
+            call-done xs (v .kept) (writeProcs user g line) w ys _ _
+            (applied-seated xs ys (writeProcs user g line) (p .0) _ (v .kept) w b (rw (v .number))) (sym w)
+        by-verdict (Refused e) w b = rw b (call-refused xs (v .kept) (writeProcs user g line) _ _ e w (sym w))
+
+    pub migrated : (target : Chain) → ChainOf (view xs) g target → (a : Answer) → Migrated xs ys user (p .0) (lowest target) a
+        → Calling xs ys (writeProcs user g line) (verdict (view xs) (writeProcs user g line)) a
+    migrated target to a m = by-answer a (rw (lowest-is target to) at m)

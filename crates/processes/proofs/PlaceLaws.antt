@@ -8,7 +8,7 @@ use mathlib.Core.Logic.{_≢_}
 use mathlib.Core.Path.{_≡_, ap, sym, _∙_, subst}
 use lib.ListN.{length}
 use Rattle.model.specs.Functions.{pick, upd, weigh}
-use Rattle.model.specs.Sizes.{processes}
+use Rattle.model.specs.Sizes.{groups, processes}
 use Rattle.model.specs.Tree.{Tree, Place, nowhere, at, Process, noProcess, groupOf, isLive, lives, cores, places, parents, depths, atProcess}
 use Rattle.model.specs.Hierarchy.{inside, headcount, population}
 use Rattle.model.specs.Rules.{processGroup}
@@ -21,17 +21,18 @@ use Rattle.model.proofs.FunctionLaws.{upd-map, weigh-yes, weigh-zero}
 use Rattle.model.proofs.AmountLaws.{place-live, place-free, population-change}
 use Rattle.model.proofs.ProcessLaws.{process-range}
 use Rattle.tree.specs.Layout.{treeWords, view, sumIn, Spare}
-use Rattle.tree.specs.Changes.{Wrote, Adjusted}
-use Rattle.tree.specs.Counters.{Adjustable}
+use Rattle.tree.specs.Changes.{ProcessRow, Wrote, Adjusted}
+use Rattle.tree.specs.Counters.{lowest, ChainOf, Adjustable}
 use Rattle.tree.specs.Kept.{countOf, Kept}
 use Rattle.tree.specs.Calling.{Applied}
+use Rattle.tree.specs.declared.chain.Chain.{Chain}
 use Rattle.tree.specs.declared.sum.Counter.{Counter}
 use Rattle.tree.specs.declared.sum.Counter.the-variants.{Of, Children}
 use Rattle.tree.proofs.AdjustLaws.{counters-apart}
 use Rattle.tree.proofs.KeptLaws.{adjustable}
 use Rattle.tree.proofs.CallLaws.{applied-as}
 use Rattle.tree.proofs.RoomCallLaws.{sum-after-adjust}
-use Rattle.processes.specs.Place.{Vacant, Standing, Moving, Seated}
+use Rattle.processes.specs.Place.{Vacant, Standing, Between, Seated, Moved}
 
 -- what a process in that place adds to the number inside a
 abbrev counted : Tree → Place → ℕ → ℕ
@@ -139,6 +140,10 @@ module _ (xs : List ℕ) (p g : ℕ) (h : Vacant xs p g) where
   pub enter-adjustable : (n : ℕ) → n ≤ 1 → Adjustable xs (Of Processes) g n 0
   enter-adjustable n few = adjustable xs (h .home .kept) g (h .home .live) (Of Processes) n 0 (omega arith) (λ a i. omega arith)
 
+  -- number and group have a row still
+  pub enter-rows : (ys : List ℕ) → Adjusted xs ys (Of Processes) g 1 0 → ProcessRow ys p × (g < groups)
+  enter-rows ys d = (record { long = d .long; low = h .low }, h .home .kept .formed .sound .range g (h .home .live))
+
   pub entered : (ys zs : List ℕ) (user : ℕ) → Adjusted xs ys (Of Processes) g 1 0
       → Wrote ys zs (atProcess (view ys) p (record { place = at g; user = user })) → Seated xs zs p (record { place = at g; user = user })
   entered ys zs user d w =
@@ -184,33 +189,49 @@ not-more : (b : Bool) (s m : ℕ) → pick b (s + 0 - m) s ≤ s
 not-more true s m = omega arith
 not-more false s m = omega arith
 
-module _ (xs : List ℕ) (p g : ℕ) (h : Moving xs p g) (ys : List ℕ) (source : ℕ) where
-  pub move-adjustable : (m n : ℕ) → Adjusted xs ys (Of Processes) source 0 m → n ≤ 1 → Adjustable ys (Of Processes) g n 0
-  move-adjustable m n d few =
-      let up : (ℕ → ℕ) = parents (view xs) in
-      let was : Adjustable xs (Of Processes) g n 0 = adjustable xs (h .to .kept) g (h .to .live) (Of Processes) n 0 (omega arith) (λ a i. omega arith) in
-      record {
-        long = d .long;
-        sound = subst (λ (t : Tree). Sound (lives t) (parents t) (depths t)) (sym (d .tree)) (was .sound);
-        live = subst (λ (t : Tree). lives t g ≡ true) (sym (d .tree)) (was .live);
-        room = λ a i.
-            omega (
-              arith,
-              was .room a (subst (λ (t : Tree). inside (parents t) a g ≡ true) (d .tree) i),
-              d .sums a,
-              not-more (inside up a source) (sumIn xs (Of Processes) a) m,
-            );
-        enough = λ a i. omega arith;
-      }
+module _ {xs : List ℕ} {p : ℕ} {source target : Chain} (h : Between xs p source target) where
+  pub leave-along : Adjustable xs (Of Processes) (lowest source) 0 1
+  leave-along = leave-adjustable xs p (h .moving .from) (lowest source) 1 (h .home) (omega arith)
 
-  pub relocated : (zs us : List ℕ) (user : ℕ) → user ≡ view xs .process p .user → source ≡ processGroup (view xs) p
-      → Adjusted xs ys (Of Processes) source 0 1 → Adjusted ys zs (Of Processes) g 1 0 → Wrote zs us (atProcess (view zs) p (record { place = at g; user = user }))
-      → Seated xs us p (record { place = at g; user = view xs .process p .user })
-  relocated zs us user q f d e w =
-      let out : Recounted xs ys (at (processGroup (view xs) p)) nowhere = left-out xs p (h .from) ys source f d in
-      let come : Recounted ys zs nowhere (at g) = recounted-more ys zs g e in
-      seated xs zs us (h .to .kept) p (standing-low xs p (h .from)) (record { place = at g; user = view xs .process p .user })
-      (rw (place-live (places (view xs) p) (h .from .live)) (recounted-then xs ys zs _ _ out come)) (rw q at w)
+  module _ (ys : List ℕ) (d : Adjusted xs ys (Of Processes) (lowest source) 0 1) where
+    -- the other chain is the same still
+    pub to-along : ChainOf (view ys) (lowest target) target
+    to-along = subst (λ (t : Tree). ChainOf t (lowest target) target) (sym (d .tree)) (h .to)
+
+    pub come-along : Adjustable ys (Of Processes) (lowest target) 1 0
+    come-along =
+        let g : ℕ = lowest target in
+        let to = h .moving .to in
+        let was : Adjustable xs (Of Processes) g 1 0 = adjustable xs (to .kept) g (to .live) (Of Processes) 1 0 (omega arith) (λ a i. omega arith) in
+        record {
+          long = d .long;
+          sound = subst (λ (t : Tree). Sound (lives t) (parents t) (depths t)) (sym (d .tree)) (was .sound);
+          live = subst (λ (t : Tree). lives t g ≡ true) (sym (d .tree)) (was .live);
+          room = λ a i.
+              omega (
+                arith,
+                was .room a (subst (λ (t : Tree). inside (parents t) a g ≡ true) (d .tree) i),
+                d .sums a,
+                not-more (inside (parents (view xs)) a (lowest source)) (sumIn xs (Of Processes) a) 1,
+              );
+          enough = λ a i. omega arith;
+        }
+
+    module _ (zs : List ℕ) (e : Adjusted ys zs (Of Processes) (lowest target) 1 0) where
+      -- number and group have a row still
+      pub move-rows : ProcessRow zs p × (lowest target < groups)
+      move-rows =
+          let to = h .moving .to in
+          (record { long = e .long; low = standing-low xs p (h .moving .from) }, to .kept .formed .sound .range (lowest target) (to .live))
+
+      pub relocated : (us : List ℕ) (user : ℕ) → user ≡ view zs .process p .user
+          → Wrote zs us (atProcess (view zs) p (record { place = at (lowest target); user = user })) → Moved xs us p (lowest target)
+      relocated us user q w =
+          let out : Recounted xs ys (at (processGroup (view xs) p)) nowhere = left-out xs p (h .moving .from) ys (lowest source) (h .home) d in
+          let come : Recounted ys zs nowhere (at (lowest target)) = recounted-more ys zs (lowest target) e in
+          let same : user ≡ view xs .process p .user = q ∙ ap (λ (t : Tree). t .process p .user) (e .tree ∙ d .tree) in
+          seated xs zs us (h .moving .to .kept) p (standing-low xs p (h .moving .from)) (record { place = at (lowest target); user = view xs .process p .user })
+          (rw (place-live (places (view xs) p) (h .moving .from .live)) (recounted-then xs ys zs _ _ out come)) (rw same at w)
 
 -- An accepted call whose effect is such a change.
 pub applied-seated : (xs ys : List ℕ) (c : Call) (p : ℕ) (v : Process) → Kept xs → verdict (view xs) c ≡ Done → Seated xs ys p v

@@ -8,7 +8,9 @@ use Rattle.model.specs.Sizes.{processes}
 use Rattle.model.specs.Tree.{Process, at, atProcess, isLive, places}
 use Rattle.model.specs.Rules.{processGroup}
 use Rattle.tree.specs.Layout.{view}
+use Rattle.tree.specs.Counters.{lowest, ChainOf}
 use Rattle.tree.specs.Kept.{Settled, KeptAt}
+use Rattle.tree.specs.declared.chain.Chain.{Chain}
 
 -- a free number, for a process of g
 pub record Vacant (xs : List ℕ) (p g : ℕ) : Type 0 where
@@ -25,6 +27,13 @@ pub record Standing (xs : List ℕ) (p : ℕ) : Type 0 where
 pub record Moving (xs : List ℕ) (p g : ℕ) : Type 0 where
   pub from : Standing xs p
   pub to : KeptAt xs g
+
+-- a live process, the chain of its group, and the chain of a live group
+pub record Between (xs : List ℕ) (p : ℕ) (source target : Chain) : Type 0 where
+  pub moving : Moving xs p (lowest target)
+  pub home : lowest source ≡ processGroup (view xs) p
+  pub from : ChainOf (view xs) (lowest source) source
+  pub to : ChainOf (view xs) (lowest target) target
 
 -- the words stand for the tree where process p is v
 abbrev pub Seated : List ℕ → List ℕ → ℕ → Process → Type 0

@@ -16,13 +16,14 @@ use model::Resource;
 use model::RoomAnswer;
 use tree::chain::chain_of;
 use tree::counter::Search;
-use tree::counter::first_full;
+use tree::counter::try_charge;
 use tree::layout::PROCESSES;
 use tree::layout::Tree;
 use tree::process::is_process;
 use tree::process::is_taken;
 use tree::process::process_group;
 use tree::process::process_user;
+use tree::process::put_process;
 
 // 22 the number outside 1 to 256; 17 taken. Any user may be admitted.
 fn vet_admit(tree: &Tree, process: ProcessId) -> Answer
@@ -89,11 +90,11 @@ pub fn fork(tree: &mut Tree, parent: ProcessId, new: ProcessId) -> RoomAnswer
     let group = process_group(tree, parent);
     let user = process_user(tree, parent);
     let chain = chain_of(tree, group);
-    let found = first_full(tree, chain, Resource::Processes, 1);
+    let found = try_charge(tree, chain, Resource::Processes, 1);
     let count = match found {
         Search::Fits(count) => count,
         Search::Full(stop, place) => return RoomAnswer::NoRoom(stop, place),
     };
-    enter(tree, new, group, user);
+    put_process(tree, new, group, user);
     RoomAnswer::Granted(count)
 }

@@ -5,21 +5,24 @@ ghost use Rattle.model.specs.Checks.{first};
 ghost use Rattle.model.specs.Rules.{mayMove, lineProcess};
 ghost use Rattle.model.specs.Calls.{writeProcs};
 ghost use Rattle.tree.specs.Layout.{view};
+ghost use Rattle.tree.specs.Counters.{lowest};
 ghost use Rattle.tree.specs.Kept.{Kept, KeptAt};
 ghost use Rattle.tree.specs.Calling.{Called};
-ghost use Rattle.processes.specs.Place.{Moving};
-ghost use Rattle.processes.specs.Migration.{groupChecks, lineChecks, numberChecks, moveChecks, namedBy, isClosed};
-use super::place::relocate;
+ghost use Rattle.processes.specs.Place.{Between};
+ghost use Rattle.processes.specs.Migration.{groupChecks, lineChecks, numberChecks, moveChecks, namedBy, isClosed, Migrated};
 use model::Answer;
 use model::Controller;
 use model::Errno;
 use model::GroupId;
 use model::ProcessId;
+use model::Resource;
 use text::line::is_too_long;
 use text::number::Number;
 use text::number::parse_number_line;
+use tree::chain::Chain;
 use tree::chain::chain_of;
 use tree::chain::common_ancestor;
+use tree::counter::adjust;
 use tree::group::has;
 use tree::group::is_live;
 use tree::layout::GROUPS;
@@ -28,7 +31,9 @@ use tree::layout::Tree;
 use tree::process::is_process;
 use tree::process::process_group;
 use tree::process::process_user;
+use tree::process::put_process;
 use tree::rule::may_write;
+use tree::sum::Counter;
 
 // The live process that a line names, or what the line is refused with.
 enum Named {
@@ -85,9 +90,9 @@ fn vet_line(tree: &Tree, line: &[u8]) -> Named
 
 // Whether a user may move a process: user 0, or the process's own user that may write the common ancestor of both groups. The
 // chains are those of the process's group and of the group that it moves to.
-fn may_move(tree: &Tree, user: u32, process: ProcessId, group: GroupId) -> bool
-    requires { ⌜ Moving (now tree) (process .0) (group .0) ⌝ }
-    ensures { λ r. ⌜ r ≡ mayMove (view (now (tree .entry))) user (process .0) (group .0) ⌝ }
+fn may_move(tree: &Tree, user: u32, process: ProcessId, source: Chain, target: Chain) -> bool
+    requires { ⌜ Between (now tree) (process .0) source target ⌝ }
+    ensures { λ r. ⌜ r ≡ mayMove (view (now (tree .entry))) user (process .0) (lowest target) ⌝ }
 {
     if user == 0 {
         return true;
@@ -95,8 +100,6 @@ fn may_move(tree: &Tree, user: u32, process: ProcessId, group: GroupId) -> bool
     if user as u64 != process_user(tree, process) {
         return false;
     }
-    let source = chain_of(tree, process_group(tree, process));
-    let target = chain_of(tree, group);
     may_write(tree, user, common_ancestor(source, target))
 }
 
@@ -118,16 +121,44 @@ fn is_closed(tree: &Tree, group: GroupId) -> bool
 }
 
 // 13 the user may not move the process there; 16 the group is closed to processes.
-fn vet_move(tree: &Tree, user: u32, process: ProcessId, group: GroupId) -> Answer
-    requires { ⌜ Moving (now tree) (process .0) (group .0) ⌝ }
-    ensures { λ r. ⌜ r ≡ first (moveChecks (view (now (tree .entry))) user (process .0) (group .0)) ⌝ }
+fn vet_move(tree: &Tree, user: u32, process: ProcessId, source: Chain, target: Chain) -> Answer
+    requires { ⌜ Between (now tree) (process .0) source target ⌝ }
+    ensures { λ r. ⌜ r ≡ first (moveChecks (view (now (tree .entry))) user (process .0) (lowest target)) ⌝ }
 {
-    if !may_move(tree, user, process, group) {
+    if !may_move(tree, user, process, source, target) {
         return Answer::Refused(Errno::Eacces);
     }
-    if is_closed(tree, group) {
+    if is_closed(tree, target.at[0]) {
         return Answer::Refused(Errno::Ebusy);
     }
+    Answer::Done
+}
+
+// Moves a process from the lowest group of one chain to that of another, if the user may: the sums of processes have one less along
+// the one, and one more along the other. The walks are here and not in a function of their own: a chain that is handed on twice is
+// copied.
+fn migrate(tree: &mut Tree, user: u32, process: ProcessId, source: Chain, target: Chain) -> Answer
+    requires { ⌜ Between (now tree) (process .0) source target ⌝ }
+    ensures { λ r. ⌜ Migrated (now (tree .entry)) (now (tree .exit)) user (process .0) (lowest target) r ⌝ }
+{
+    let vetted = vet_move(tree, user, process, source, target);
+    let Answer::Done = vetted else {
+        return vetted;
+    };
+    let mut i: usize = 0;
+    while i + 1 < source.len {
+        adjust(tree, source.at[i], Counter::Of(Resource::Processes), 0, 1);
+        i += 1;
+    }
+    adjust(tree, GroupId(0), Counter::Of(Resource::Processes), 0, 1);
+    let mut j: usize = 0;
+    while j + 1 < target.len {
+        adjust(tree, target.at[j], Counter::Of(Resource::Processes), 1, 0);
+        j += 1;
+    }
+    adjust(tree, GroupId(0), Counter::Of(Resource::Processes), 1, 0);
+    let own_user = process_user(tree, process);
+    put_process(tree, process, target.at[0], own_user);
     Answer::Done
 }
 
@@ -145,10 +176,7 @@ pub fn write_procs(tree: &mut Tree, user: u32, group: GroupId, line: &[u8]) -> A
         Named::Process(process) => process,
         Named::Refused(errno) => return Answer::Refused(errno),
     };
-    let vetted = vet_move(tree, user, process, group);
-    let Answer::Done = vetted else {
-        return vetted;
-    };
-    relocate(tree, process, group);
-    Answer::Done
+    let source = chain_of(tree, process_group(tree, process));
+    let target = chain_of(tree, group);
+    migrate(tree, user, process, source, target)
 }

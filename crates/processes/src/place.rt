@@ -1,6 +1,6 @@
 // Where a process stands and the running sums of processes above it, changed together. It makes no check of its own.
 ghost use Rattle.model.specs.Tree.{at, noProcess};
-ghost use Rattle.processes.specs.Place.{Vacant, Standing, Moving, Seated, Moved};
+ghost use Rattle.processes.specs.Place.{Vacant, Standing, Seated};
 use model::GroupId;
 use model::ProcessId;
 use model::Resource;
@@ -8,7 +8,6 @@ use tree::counter::adjust_up;
 use tree::layout::Tree;
 use tree::process::clear_process;
 use tree::process::process_group;
-use tree::process::process_user;
 use tree::process::put_process;
 use tree::sum::Counter;
 
@@ -29,16 +28,4 @@ pub fn leave(tree: &mut Tree, process: ProcessId)
     let group = process_group(tree, process);
     adjust_up(tree, group, Counter::Of(Resource::Processes), 0, 1);
     clear_process(tree, process);
-}
-
-// A process moves from its group to another, or to the same.
-pub fn relocate(tree: &mut Tree, process: ProcessId, target: GroupId)
-    requires { ⌜ Moving (now tree) (process .0) (target .0) ⌝ }
-    ensures { λ _. ⌜ Moved (now (tree .entry)) (now (tree .exit)) (process .0) (target .0) ⌝ }
-{
-    let user = process_user(tree, process);
-    let source = process_group(tree, process);
-    adjust_up(tree, source, Counter::Of(Resource::Processes), 0, 1);
-    adjust_up(tree, target, Counter::Of(Resource::Processes), 1, 0);
-    put_process(tree, process, target, user);
 }

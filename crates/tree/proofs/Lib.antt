@@ -4,6 +4,7 @@ pub mod RowLaws
 pub mod SetterLaws
 pub mod WalkLaws
 pub mod AdjustLaws
+pub mod AlongLaws
 pub mod ActingLaws
 pub mod KeptLaws
 pub mod CountLaws

@@ -4,13 +4,13 @@ use Prim.Native.Nat.{ℕ, _+_, _-_, _≤_}
 use native.Mathlib.Omega.{arith}
 use mathlib.Core.Bool.{Bool, true}
 use mathlib.Core.List.{List, _++_}
-use mathlib.Core.Path.{_≡_, ap, sym, _∙_}
+use mathlib.Core.Path.{_≡_, ap, sym, _∙_, subst}
 use Rattle.model.specs.Functions.{weigh}
 use Rattle.model.specs.Sizes.{largestCharge}
 use Rattle.model.specs.Checks.{Check, first}
 use Rattle.model.specs.Tree.{isLive, parents, places}
 use Rattle.model.specs.Hierarchy.{inside, factsOf}
-use Rattle.model.specs.Rooms.{room, full, actingLimit, consult, roomFor, shortage}
+use Rattle.model.specs.Rooms.{room, full, roomFor, shortage}
 use Rattle.model.specs.Rules.{processGroup}
 use Rattle.model.specs.Calls.{Call, roomCheck, verdict}
 use Rattle.model.specs.Replies.{roomAnswer}
@@ -24,7 +24,7 @@ use Rattle.model.proofs.RoomAnswerLaws.{verdict-vetted, verdict-full, verdict-r
 use Rattle.model.proofs.Steps.{process-lives}
 use Rattle.tree.specs.Layout.{view, sumIn}
 use Rattle.tree.specs.Changes.{Adjusted}
-use Rattle.tree.specs.Counters.{listed, ChainOf, Searchable, roomOf}
+use Rattle.tree.specs.Counters.{lowest, ChainOf, Chargeable, roomOf, Left, Tried}
 use Rattle.tree.specs.Kept.{Kept, KeptAt}
 use Rattle.tree.specs.Calling.{Calling, Applied}
 use Rattle.tree.specs.declared.chain.Chain.{Chain}
@@ -32,7 +32,8 @@ use Rattle.tree.specs.declared.sum.Counter.{Counter}
 use Rattle.tree.specs.declared.sum.Counter.the-variants.{Of}
 use Rattle.tree.specs.declared.counter.Search.{Search}
 use Rattle.tree.specs.declared.counter.Search.the-variants.{Fits, Full}
-use Rattle.tree.proofs.KeptLaws.{searchable, room-found}
+use Rattle.tree.proofs.AlongLaws.{lowest-of}
+use Rattle.tree.proofs.KeptLaws.{room-found}
 use Rattle.tree.proofs.CallLaws.{call-refused, call-done}
 
 -- A running sum after n more and m less in g and above.
@@ -69,29 +70,37 @@ module _ {xs : List ℕ} {call : Call} {r : Resource} {n p : ℕ} {cs : List Che
     room-call-home = record { kept = o .kept; live = rw (v .group) (process-lives (view xs) (o .kept .formed) p (v .live)) }
 
     module _ {c : Chain} (h : ChainOf (view xs) g c) where
-      pub room-call-searchable : (m : ℕ) → m ≤ largestCharge → Searchable xs r (listed c) m
-      room-call-searchable m few = searchable xs (o .kept) g (room-call-home .live) c h r m few
+      home-is-lowest : lowest c ≡ g
+      home-is-lowest = lowest-of (view xs) (o .kept .formed .sound) g (room-call-home .live) c h
 
-      -- what the search for room found
-      module _ (x : Search) (f : roomOf x ≡ consult (actingLimit (view xs) r) (sumIn xs (Of r)) n 0 (listed c)) where
+      pub room-call-chargeable : n ≤ largestCharge → Chargeable xs c n
+      room-call-chargeable few = record { home = rw home-is-lowest room-call-home; chain = rw home-is-lowest h; few = few }
+
+      -- the charge was tried
+      module _ {ys : List ℕ} {x : Search} (f : Tried xs ys c r n x) where
         found : roomOf x ≡ roomFor (factsOf (view xs)) r n (processGroup (view xs) p)
-        found = rw (← v .group) (room-found xs (o .kept) g c h r n (roomOf x) f)
+        found = rw (← v .group) (room-found xs (o .kept) g c h r n (roomOf x) (f .room))
 
         -- a group had no room
-        pub room-call-full : (s : GroupId) (i : ℕ) → x ≡ Full s i → Calling xs xs call expected (RoomAnswer.NoRoom s i)
+        pub room-call-full : (s : GroupId) (i : ℕ) → x ≡ Full s i → Calling xs ys call expected (RoomAnswer.NoRoom s i)
         room-call-full s i e =
             let y : roomFor (factsOf (view xs)) r n (processGroup (view xs) p) ≡ full (s .0) i = sym found ∙ ap roomOf e in
-            call-refused xs (o .kept) call expected _ (shortage r) (o .verdict ∙ verdict-full cs _ r (v .passed) (s .0) i y)
-            (sym (o .answer ∙ rw (v .passed, y)))
+            let same : ys ≡ xs = subst (Left xs ys c r n) e (f .left) in
+            rw same
+            (call-refused xs (o .kept) call expected _ (shortage r) (o .verdict ∙ verdict-full cs _ r (v .passed) (s .0) i y)
+            (sym (o .answer ∙ rw (v .passed, y))))
 
         -- all had
         module _ (i : ℕ) (e : x ≡ Fits i) where
           enough : roomFor (factsOf (view xs)) r n (processGroup (view xs) p) ≡ room i
           enough = sym found ∙ ap roomOf e
 
+          pub room-call-charged : Adjusted xs ys (Of r) g n 0
+          room-call-charged = subst (λ (a : ℕ). Adjusted xs ys (Of r) a n 0) home-is-lowest (subst (Left xs ys c r n) e (f .left))
+
           pub room-call-accepted : verdict (view xs) call ≡ Answer.Done
           room-call-accepted = o .verdict ∙ verdict-room cs _ r (v .passed) i enough
 
-          pub room-call-granted : (ys : List ℕ) → Applied xs ys call → Calling xs ys call expected (RoomAnswer.Granted i)
-          room-call-granted ys d =
-              call-done xs (o .kept) call room-call-accepted ys expected _ d (sym (o .answer ∙ rw (v .passed, enough)))
+          pub room-call-granted : (zs : List ℕ) → Applied xs zs call → Calling xs zs call expected (RoomAnswer.Granted i)
+          room-call-granted zs d =
+              call-done xs (o .kept) call room-call-accepted zs expected _ d (sym (o .answer ∙ rw (v .passed, enough)))

@@ -11,7 +11,7 @@ use model::GroupId;
 
 // The first `len` numbers of `at`.
 pub struct Chain {
-    pub at: [u64; CHAIN],
+    pub at: [GroupId; CHAIN],
     pub len: usize,
 }
 
@@ -19,19 +19,19 @@ pub fn chain_of(t: &Tree, g: GroupId) -> Chain
     requires { ⌜ KeptAt (now t) (g .0) ⌝ }
     ensures { λ r. ⌜ ChainOf (view (now (t .entry))) (g .0) r ⌝ }
 {
+    let root = GroupId(0);
     let mut c = Chain {
-        at: [0u64; CHAIN],
+        at: [root; CHAIN],
         len: 1,
     };
-    let mut here = g.0;
+    let mut here = g;
     let mut i: usize = 0;
-    while here != 0 {
+    while here.0 != 0 {
         c.at[i] = here;
-        let above = parent(t, GroupId(here));
-        here = above.0;
+        here = parent(t, here);
         i += 1;
     }
-    c.at[i] = 0;
+    c.at[i] = here;
     c.len = i + 1;
     c
 }
@@ -46,17 +46,17 @@ pub fn common_ancestor(a: Chain, b: Chain) -> GroupId
     let mut i = 0;
     let found = 'up: loop {
         if i == n {
-            break 'up 0;
+            break 'up GroupId(0);
         }
         let x = a.at[i];
         let mut j = 0;
         while j < m {
-            if b.at[j] == x {
+            if b.at[j].0 == x.0 {
                 break 'up x;
             }
             j += 1;
         }
         i += 1;
     };
-    GroupId(found)
+    found
 }

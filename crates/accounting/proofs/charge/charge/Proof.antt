@@ -4,19 +4,24 @@ use mathlib.Core.Path.{_≡_, sym, _∙_}
 use Rattle.model.specs.Checks.{first}
 use Rattle.model.specs.Calls.{chargeChecks}
 use Rattle.model.specs.declared.Answer.the-variants.{Done}
+use Rattle.model.specs.declared.Resource.the-variants.{Pages}
 use Rattle.model.proofs.ProcessLaws.{process-range}
 use Rattle.tree.specs.Layout.{view}
-use Rattle.tree.proofs.RoomCallLaws.{RoomVetted, room-call-refused, room-call-home, room-call-searchable, room-call-full, room-call-accepted, room-call-granted}
+use Rattle.tree.specs.Changes.{Adjusted}
+use Rattle.tree.specs.declared.sum.Counter.the-variants.{Of}
+use Rattle.tree.proofs.RoomCallLaws.{RoomVetted, room-call-refused, room-call-home, room-call-chargeable, room-call-full, room-call-charged, room-call-accepted, room-call-granted}
+use Rattle.accounting.specs.Pages.{PagesAdjustable}
+use Rattle.accounting.proofs.PagesLaws.{own-adjustable, pages-adjusted}
 use Rattle.accounting.proofs.ChargeLaws.{charge-call, charge-live, charge-few, charge-vetted, charge-adjustable, charged}
 use borrow.Author.Needs.{needs}
 use Rattle.accounting.proofs.charge.charge.Statement.{statement}
 use Rattle.accounting.proofs.charge.charge.Tie as tie
 
 -- the places on the way, from the last to the first
-abbrev found-at : tie.After-found → tie.After-first-full
+abbrev found-at : tie.After-found → tie.After-try-charge
 found-at c = c .before .before
 
-abbrev chain-at : tie.After-first-full → tie.After-chain-of
+abbrev chain-at : tie.After-try-charge → tie.After-chain-of
 chain-at c = c .before .before
 
 abbrev group-at : tie.After-chain-of → tie.After-process-group
@@ -65,12 +70,12 @@ chain-of-requires c κs =
     let g = c .before in
     room-call-home (charge-call _ (start (vet-at (done-at g)) .pre) _ _) (vetted g)
 
-first-full-requires : tie.Need-first-full-requires
-first-full-requires c κs =
+try-charge-requires : tie.Need-try-charge-requires
+try-charge-requires c κs =
     let h = c .before in
     let g = group-at h in
     let d = done-at g in
-    (h .chain-of .ensures .whole, room-call-searchable (charge-call _ (start (vet-at d) .pre) _ _) (vetted g) (h .chain-of .ensures) _ (charge-few _ _ _ (passed d)))
+    room-call-chargeable (charge-call _ (start (vet-at d) .pre) _ _) (vetted g) (h .chain-of .ensures) (charge-few _ _ _ (passed d))
 
 enum-known-found : tie.Need-enum-known-found
 enum-known-found c = search needs
@@ -84,13 +89,29 @@ returns-2 c =
     let f = c .before .before .before in
     let h = chain-at f in
     let g = group-at h in
-    room-call-full (charge-call _ (start (vet-at (done-at g)) .pre) _ _) (vetted g) (h .chain-of .ensures) _ (f .first-full .ensures) _ _ (c .before .found2 .given .1)
+    room-call-full (charge-call _ (start (vet-at (done-at g)) .pre) _ _) (vetted g) (h .chain-of .ensures) (f .try-charge .ensures) _ _ (c .before .found2 .given .1)
 
-adjust-pages-requires : tie.Need-adjust-pages-requires
-adjust-pages-requires c κs =
-    let g = group-at (chain-at (found-at (c .before .before))) in
-    let d = done-at g in
-    charge-adjustable _ _ _ _ (passed d) (g .process-group .ensures) (room-call-home (charge-call _ (start (vet-at d) .pre) _ _) (vetted g))
+-- the sums of the chain have the pages
+charged-sums : (c : tie.After-found)
+    → let f = found-at c in let a = start (vet-at (done-at (group-at (chain-at f)))) .args in
+    Adjusted (a .tree .now) (f .try-charge .last .0) (Of Pages) (group-at (chain-at f) .process-group .result .0) (a .pages) 0
+charged-sums c =
+    let f = found-at c in
+    let h = chain-at f in
+    let g = group-at h in
+    room-call-charged (charge-call _ (start (vet-at (done-at g)) .pre) _ _) (vetted g) (h .chain-of .ensures) (f .try-charge .ensures) _ (c .found .given .1)
+
+-- and its group can take them
+takes : (c : tie.After-process-group)
+    → let a = start (vet-at (done-at c)) .args in PagesAdjustable (a .tree .now) (c .process-group .result .0) (a .pages) 0
+takes c =
+    let d = done-at c in
+    charge-adjustable _ _ _ _ (passed d) (c .process-group .ensures) (room-call-home (charge-call _ (start (vet-at d) .pre) _ _) (vetted c))
+
+adjust-own-requires : tie.Need-adjust-own-requires
+adjust-own-requires c κs =
+    let e = c .before .before in
+    own-adjustable _ _ _ _ (takes (group-at (chain-at (found-at e)))) _ (charged-sums e)
 
 -- granted
 returns-3 : tie.Need-returns-3
@@ -102,9 +123,10 @@ returns-3 c =
     let d = done-at g in
     let o = charge-call _ (start (vet-at d) .pre) _ _ in
     let v = vetted g in
-    room-call-granted o v (h .chain-of .ensures) _ (f .first-full .ensures) _ (e .found .given .1) _
+    room-call-granted o v (h .chain-of .ensures) (f .try-charge .ensures) _ (e .found .given .1) _
     (charged _ _ _ _ (passed d) (g .process-group .ensures) (start (vet-at d) .pre)
-    (room-call-accepted o v (h .chain-of .ensures) _ (f .first-full .ensures) _ (e .found .given .1)) _ (c .adjust-pages .ensures))
+    (room-call-accepted o v (h .chain-of .ensures) (f .try-charge .ensures) _ (e .found .given .1)) _
+    (pages-adjusted _ _ _ _ (takes g) _ _ (charged-sums e) (c .adjust-own .ensures)))
 
 pub charge-spec : {M : Type 1} → statement M
 charge-spec =
@@ -116,9 +138,9 @@ charge-spec =
     enum-told
     process-group-requires
     chain-of-requires
-    first-full-requires
+    try-charge-requires
     enum-known-found
     enum-known-found-2
     returns-2
-    adjust-pages-requires
+    adjust-own-requires
     returns-3)

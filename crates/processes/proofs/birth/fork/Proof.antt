@@ -6,18 +6,23 @@ use borrow.Author.Needs.{needs}
 use Rattle.model.specs.Calls.{forkChecks}
 use Rattle.model.specs.Checks.{first}
 use Rattle.model.specs.declared.Answer.the-variants.{Done}
+use Rattle.model.specs.declared.Resource.the-variants.{Processes}
 use Rattle.model.proofs.ProcessLaws.{process-range}
 use Rattle.tree.specs.Layout.{view}
-use Rattle.tree.proofs.RoomCallLaws.{RoomVetted, room-call-refused, room-call-home, room-call-searchable, room-call-full, room-call-accepted, room-call-granted}
+use Rattle.tree.specs.Changes.{Adjusted}
+use Rattle.tree.specs.declared.sum.Counter.the-variants.{Of}
+use Rattle.tree.proofs.RoomCallLaws.{RoomVetted, room-call-refused, room-call-home, room-call-chargeable, room-call-full, room-call-charged, room-call-accepted, room-call-granted}
+use Rattle.processes.specs.Place.{Vacant}
+use Rattle.processes.proofs.PlaceLaws.{enter-rows, entered}
 use Rattle.processes.proofs.BirthLaws.{fork-call, fork-parent, fork-vetted, fork-vacant, forked}
 use Rattle.processes.proofs.birth.fork.Statement.{statement}
 use Rattle.processes.proofs.birth.fork.Tie as tie
 
 -- the places on the way, from the last to the first
-abbrev found-at : tie.After-found → tie.After-first-full
+abbrev found-at : tie.After-found → tie.After-try-charge
 found-at c = c .before .before
 
-abbrev chain-at : tie.After-first-full → tie.After-chain-of
+abbrev chain-at : tie.After-try-charge → tie.After-chain-of
 chain-at c = c .before .before
 
 abbrev user-at : tie.After-chain-of → tie.After-process-user
@@ -74,11 +79,11 @@ chain-of-requires c κs =
     let g = group-at (c .before) in
     room-call-home (fork-call _ (start (vet-at (done-at g)) .pre) _ _) (vetted g)
 
-first-full-requires : tie.Need-first-full-requires
-first-full-requires c κs =
+try-charge-requires : tie.Need-try-charge-requires
+try-charge-requires c κs =
     let h = c .before in
     let g = group-at (user-at h) in
-    (h .chain-of .ensures .whole, room-call-searchable (fork-call _ (start (vet-at (done-at g)) .pre) _ _) (vetted g) (h .chain-of .ensures) _ (omega arith))
+    room-call-chargeable (fork-call _ (start (vet-at (done-at g)) .pre) _ _) (vetted g) (h .chain-of .ensures) (omega arith)
 
 enum-known-found : tie.Need-enum-known-found
 enum-known-found c = search needs
@@ -92,13 +97,28 @@ returns-2 c =
     let f = c .before .before .before in
     let h = chain-at f in
     let g = group-at (user-at h) in
-    room-call-full (fork-call _ (start (vet-at (done-at g)) .pre) _ _) (vetted g) (h .chain-of .ensures) _ (f .first-full .ensures) _ _ (c .before .found2 .given .1)
+    room-call-full (fork-call _ (start (vet-at (done-at g)) .pre) _ _) (vetted g) (h .chain-of .ensures) (f .try-charge .ensures) _ _ (c .before .found2 .given .1)
 
-enter-requires : tie.Need-enter-requires
-enter-requires c κs =
-    let g = group-at (user-at (chain-at (found-at (c .before .before)))) in
-    let d = done-at g in
-    fork-vacant _ _ _ _ (passed d) (g .process-group .ensures) (room-call-home (fork-call _ (start (vet-at d) .pre) _ _) (vetted g))
+-- the sums of the chain have one more
+counted : (c : tie.After-found)
+    → let f = found-at c in let g = group-at (user-at (chain-at f)) in
+    Adjusted (start (vet-at (done-at g)) .args .tree .now) (f .try-charge .last .0) (Of Processes) (g .process-group .result .0) 1 0
+counted c =
+    let f = found-at c in
+    let h = chain-at f in
+    let g = group-at (user-at h) in
+    room-call-charged (fork-call _ (start (vet-at (done-at g)) .pre) _ _) (vetted g) (h .chain-of .ensures) (f .try-charge .ensures) _ (c .found .given .1)
+
+-- and the number is free
+vacant : (c : tie.After-process-group) → let a = start (vet-at (done-at c)) .args in Vacant (a .tree .now) (a .new .0) (c .process-group .result .0)
+vacant c =
+    let d = done-at c in
+    fork-vacant _ _ _ _ (passed d) (c .process-group .ensures) (room-call-home (fork-call _ (start (vet-at d) .pre) _ _) (vetted c))
+
+put-process-requires : tie.Need-put-process-requires
+put-process-requires c κs =
+    let e = c .before .before in
+    enter-rows _ _ _ (vacant (group-at (user-at (chain-at (found-at e))))) _ (counted e)
 
 -- granted
 returns-3 : tie.Need-returns-3
@@ -111,9 +131,10 @@ returns-3 c =
     let d = done-at g in
     let o = fork-call _ (start (vet-at d) .pre) _ _ in
     let v = vetted g in
-    room-call-granted o v (h .chain-of .ensures) _ (f .first-full .ensures) _ (e .found .given .1) _
+    room-call-granted o v (h .chain-of .ensures) (f .try-charge .ensures) _ (e .found .given .1) _
     (forked _ _ _ _ (passed d) (g .process-group .ensures) (start (vet-at d) .pre)
-    (room-call-accepted o v (h .chain-of .ensures) _ (f .first-full .ensures) _ (e .found .given .1)) _ (u .process-user .ensures) _ (c .enter .ensures))
+    (room-call-accepted o v (h .chain-of .ensures) (f .try-charge .ensures) _ (e .found .given .1)) _ (u .process-user .ensures) _
+    (entered _ _ _ (vacant g) _ _ _ (counted e) (c .put-process .ensures)))
 
 pub fork-spec : {M : Type 1} → statement M
 fork-spec =
@@ -126,9 +147,9 @@ fork-spec =
     process-group-requires
     process-user-requires
     chain-of-requires
-    first-full-requires
+    try-charge-requires
     enum-known-found
     enum-known-found-2
     returns-2
-    enter-requires
+    put-process-requires
     returns-3)

@@ -1,4 +1,5 @@
 -- `processes::migration::vet_move` meets its contract: its tests are the checks, in their order. Assumes nothing.
+use native.Mathlib.Omega.{arith}
 use borrow.Author.Needs.{needs}
 use Rattle.model.proofs.VetLaws.{vets}
 use Rattle.processes.specs.Migration.{moveChecks}
@@ -12,6 +13,9 @@ may-move-requires c κs = search needs
 returns : tie.Need-returns
 unfolding moveChecks
 returns c = search vets depth 12 fits 4000
+
+element-copy-out-is-closed : tie.Need-element-copy-out-is-closed
+element-copy-out-is-closed c = search needs
 
 is-closed-requires : tie.Need-is-closed-requires
 is-closed-requires c κs = search needs
@@ -28,4 +32,4 @@ returns-3 c = search vets depth 12 fits 4000
 
 pub vet-move-spec : {M : Type 1} → statement M
 vet-move-spec =
-    tie.close (tie.spec may-move-requires returns is-closed-requires returns-2 returns-3)
+    tie.close (tie.spec may-move-requires returns element-copy-out-is-closed is-closed-requires returns-2 returns-3)

@@ -1,18 +1,26 @@
 -- `processes::migration::write_procs` meets its contract: the checks of the group, of the line and of the move together are the
--- verdict, and a process that is relocated is the definition's effect. Assumes nothing.
-use mathlib.Core.Path.{_≡_, sym, _∙_}
+-- verdict, and a process that has migrated is the definition's effect. Assumes nothing.
+use Prim.Native.Nat.{ℕ}
+use mathlib.Core.Path.{_≡_, sym, _∙_, subst}
 use borrow.Author.Needs.{needs}
 use Rattle.model.specs.declared.Answer.the-variants.{Done}
 use Rattle.model.specs.Checks.{first}
+use Rattle.model.specs.Rules.{processGroup}
 use Rattle.tree.specs.Layout.{view}
+use Rattle.tree.specs.Counters.{ChainOf}
+use Rattle.tree.specs.Kept.{KeptAt}
 use Rattle.processes.specs.Migration.{groupChecks}
-use Rattle.processes.proofs.MigrationLaws.{group-refused, line-refused, LineVetted, line-vetted, procs-moving, move-refused, moved}
+use Rattle.processes.proofs.PlaceLaws.{standing-low}
+use Rattle.processes.proofs.MigrationLaws.{group-refused, line-refused, LineVetted, line-vetted, procs-moving, procs-between, migrated}
 use Rattle.processes.proofs.migration.write_procs.Statement.{statement}
 use Rattle.processes.proofs.migration.write_procs.Tie as tie
 
 -- the places on the way, from the last to the first
-abbrev named-at : tie.After-vet-move → tie.After-named
-named-at c = c .before .before .before
+abbrev source-at : tie.After-chain-of → tie.After-process-group
+source-at c = c .before
+
+abbrev home-at : tie.After-process-group → tie.After-named
+home-at c = c .before .before .before
 
 abbrev line-at : tie.After-named → tie.After-vet-line
 line-at c = c .before .before
@@ -69,30 +77,34 @@ returns-2 c =
     let o = open-at l in
     line-refused _ (start (group-at o) .pre) _ _ _ (accepted o) _ (l .vet-line .ensures) _ (c .before .named2 .given .1)
 
-vet-move-requires : tie.Need-vet-move-requires
-vet-move-requires c κs = procs-moving (vetted (c .before .before))
+-- the source's chain
+from : (c : tie.After-chain-of)
+    → let n = home-at (source-at c) in let a = start (group-at (open-at (line-at n))) .args in
+    ChainOf (view (a .tree .now)) (processGroup (view (a .tree .now)) (n .named .given .0 .0 .0)) (c .chain-of .result)
+from c =
+    let a = start (group-at (open-at (line-at (home-at (source-at c))))) .args in
+    subst (λ (g : ℕ). ChainOf (view (a .tree .now)) g (c .chain-of .result)) (source-at c .process-group .ensures) (c .chain-of .ensures)
 
-enum-told-3 : tie.Need-enum-told-3
-enum-told-3 c = search needs
+process-group-requires : tie.Need-process-group-requires
+process-group-requires c κs = standing-low _ _ (procs-moving (vetted (c .before .before)) .from)
 
-enum-told-4 : tie.Need-enum-told-4
-enum-told-4 c = search needs
+chain-of-requires : tie.Need-chain-of-requires
+chain-of-requires c κs = subst (KeptAt _) (sym (c .process-group .ensures)) (procs-moving (vetted (home-at c)) .from .home)
 
--- refused by the move's
+chain-of-requires-2 : tie.Need-chain-of-requires-2
+chain-of-requires-2 c κs = procs-moving (vetted (home-at (source-at (c .before)))) .to
+
+migrate-requires : tie.Need-migrate-requires
+migrate-requires c κs =
+    let k = c .before in
+    let h = k .before .before in
+    procs-between (vetted (home-at (source-at h))) _ _ (from h) (k .chain-of2 .ensures)
+
+-- as the move answers
 returns-3 : tie.Need-returns-3
 returns-3 c =
-    let m = c .before .before in
-    move-refused (vetted (named-at m)) _ (m .vet-move .ensures) _ (c .enum-told4 .given .1)
-
-relocate-requires : tie.Need-relocate-requires
-relocate-requires c κs = procs-moving (vetted (named-at (c .before .before .before)))
-
--- done
-returns-4 : tie.Need-returns-4
-returns-4 c =
-    let d = c .before .before in
-    let m = d .before .before in
-    moved (vetted (named-at m)) _ (m .vet-move .ensures) (d .enum-told3 .given .1) _ (c .relocate .ensures)
+    let k = c .before .before in
+    migrated (vetted (home-at (source-at (k .before .before)))) _ _ (k .chain-of2 .ensures) _ (c .migrate .ensures)
 
 pub write-procs-spec : {M : Type 1} → statement M
 write-procs-spec =
@@ -106,9 +118,8 @@ write-procs-spec =
     enum-known-named
     enum-known-named-2
     returns-2
-    vet-move-requires
-    enum-told-3
-    enum-told-4
-    returns-3
-    relocate-requires
-    returns-4)
+    process-group-requires
+    chain-of-requires
+    chain-of-requires-2
+    migrate-requires
+    returns-3)

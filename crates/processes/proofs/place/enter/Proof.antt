@@ -1,6 +1,6 @@
 -- `processes::place::enter` meets its contract: one more in the group and above it, then the place. Assumes nothing.
 use native.Mathlib.Omega.{arith}
-use Rattle.processes.proofs.PlaceLaws.{enter-adjustable, entered}
+use Rattle.processes.proofs.PlaceLaws.{enter-adjustable, enter-rows, entered}
 use Rattle.processes.proofs.place.enter.Statement.{statement}
 use Rattle.processes.proofs.place.enter.Tie as tie
 
@@ -8,7 +8,7 @@ adjust-up-requires : tie.Need-adjust-up-requires
 adjust-up-requires c κs = let s = c .before in enter-adjustable _ _ _ (s .pre) _ (omega arith)
 
 put-process-requires : tie.Need-put-process-requires
-put-process-requires c κs = let s = c .before .before .before in (record { long = c .before .adjust-up .ensures .long; low = s .pre .low }, s .pre .home .kept .formed .sound .range _ (s .pre .home .live))
+put-process-requires c κs = let s = c .before .before .before in enter-rows _ _ _ (s .pre) _ (c .before .adjust-up .ensures)
 
 returns : tie.Need-returns
 returns c = let s = c .before .before .before .before in entered _ _ _ (s .pre) _ _ _ (c .before .before .adjust-up .ensures) (c .put-process .ensures)

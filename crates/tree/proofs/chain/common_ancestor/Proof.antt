@@ -13,7 +13,7 @@ use Rattle.tree.proofs.chain.common_ancestor.Statement.{statement}
 use Rattle.tree.proofs.chain.common_ancestor.Tie as tie
 
 abbrev Inv-loop : tie.InvT-loop
-Inv-loop a b n m i x j₀ j = (j ≤ m) × (member x (drop j (listed b)) ≡ member x (listed b))
+Inv-loop a b n m i x j₀ j = (j ≤ m) × (member (x .0) (drop j (listed b)) ≡ member (x .0) (listed b))
 
 abbrev μ-loop : tie.MeasureT-loop
 μ-loop a b n m i x j₀ j = m - j
