@@ -1,8 +1,9 @@
 //! `include/shootspiral.h` and `src/sys.rs` declare what `crates/shootspiral` exports: names,
 //! arguments in order, types, results. From each exported function the declarations in C and in Rust
 //! are written out, and compared as text with those of the two files. A number that the function's
-//! body takes for a group or a process, as `GroupId(parent)`, has to be declared as one. So is the
-//! promise of each call on a tree compared, which the theorem of `crates/demands` stands on.
+//! body takes for a group or a process, as in `GroupId(parent)`, has to be declared as one. So is
+//! the promise of each call on a tree written out and compared, which the theorem of
+//! `crates/demands` stands on.
 
 use std::fs;
 use std::path::PathBuf;
@@ -28,7 +29,7 @@ struct Function {
 }
 
 impl Function {
-    /// Reads a function from its name, parted from its body.
+    /// Reads a function from its name up to its body, and takes the body as it is.
     fn read(written: &str, body: &str) -> Function {
         let parted = on_one_line(written).replace(" requires {", "\nrequires {");
         let parted = parted.replace(" ensures {", "\nensures {");
