@@ -55,7 +55,7 @@ sub parameters {
     return join(', ', @written) || 'void';
 }
 
-# A call, in a function of its own. Each argument has a line, the first the next but one, so that an error there is of that argument.
+# A call, in a function of its own: a line up to the arguments, and one for each of them, so that an error there is of that argument.
 sub calling {
     my ($number, $function, @arguments) = @_;
     my $head = "void call_$number(" . parameters($function) . ") { $function->{name}(";
@@ -99,7 +99,7 @@ my (%out_of_place, %is_first); # by line of @changed
 sub change {
     my ($function, $arguments, @places) = @_;
     for my $place (@places) {
-        my $line = @changed + 2 + $place;
+        my $line = @changed + 2 + $place; # lines count from 1, and one comes before the arguments
         $out_of_place{$line} = "$function->{name}: $arguments->[$place] in the place of $function->{parameters}[$place][1]";
         $is_first{$line} = $place == $places[0];
     }
