@@ -30,41 +30,41 @@ static void show_told(const char *what, uint32_t number)
 		printf("    cgroup %llu has no room, %llu consulted\n", (unsigned long long)told[0], (unsigned long long)told[1]);
 }
 
-static void show_usage(uint64_t group)
+static void show_usage(ss_group group)
 {
 	char text[SS_LONGEST_REPLY];
 
 	if (ss_read(tree, group, BYTES("memory.current"), (uint8_t *)text, sizeof text, told) == SS_OK)
-		printf("    cgroup %llu uses %.*s", (unsigned long long)group, (int)told[0], text);
+		printf("    cgroup %llu uses %.*s", (unsigned long long)group.number, (int)told[0], text);
 }
 
 int main(void)
 {
 	ss_fresh(tree, 1024);
-	ss_write_subtree_control(tree, 0, 0, BYTES("+memory +pids"));
+	ss_write_subtree_control(tree, ss_u(0), ss_g(0), BYTES("+memory +pids"));
 	for (uint32_t claim = 1; claim <= 2; claim++) {
 		const char *holder = claim == 1 ? "10" : "20";
 
-		ss_make(tree, 0, 0, claim);
-		ss_hand_over(tree, 0, claim, 1000 + claim);
-		ss_admit(tree, 10 * claim, 1000 + claim);
-		ss_write_procs(tree, 0, claim, BYTES(holder));
+		ss_make(tree, ss_u(0), ss_g(0), ss_g(claim));
+		ss_hand_over(tree, ss_u(0), ss_g(claim), ss_u(1000 + claim));
+		ss_admit(tree, ss_p(10 * claim), ss_u(1000 + claim));
+		ss_write_procs(tree, ss_u(0), ss_g(claim), BYTES(holder));
 	}
-	show_told("the filter works within its claim", ss_charge(tree, 10, 60, told));
+	show_told("the filter works within its claim", ss_charge(tree, ss_p(10), 60, told));
 
-	show("the claim runs out: no more pages", ss_write_setting(tree, 0, 1, BYTES("memory.max"), BYTES("0")));
-	show("and no more processes", ss_write_setting(tree, 0, 1, BYTES("pids.max"), BYTES("0")));
-	show_told("the filter charges one page more", ss_charge(tree, 10, 1, told));
-	show_told("it forks", ss_fork(tree, 10, 11, told));
-	show("it moves itself into the holder's cgroup", ss_write_procs(tree, 1001, 2, BYTES("10")));
-	show("it pulls the holder over into its own", ss_write_procs(tree, 1001, 1, BYTES("20")));
-	show("it raises its own limit", ss_write_setting(tree, 1001, 1, BYTES("memory.max"), BYTES("max")));
-	show("it takes the holder's memory away", ss_write_setting(tree, 1001, 2, BYTES("memory.max"), BYTES("0")));
-	show("it makes the holder's cgroup its own", ss_hand_over(tree, 1001, 2, 1001));
-	show("it makes a cgroup below the holder's", ss_make(tree, 1001, 2, 3));
+	show("the claim runs out: no more pages", ss_write_setting(tree, ss_u(0), ss_g(1), BYTES("memory.max"), BYTES("0")));
+	show("and no more processes", ss_write_setting(tree, ss_u(0), ss_g(1), BYTES("pids.max"), BYTES("0")));
+	show_told("the filter charges one page more", ss_charge(tree, ss_p(10), 1, told));
+	show_told("it forks", ss_fork(tree, ss_p(10), ss_p(11), told));
+	show("it moves itself into the holder's cgroup", ss_write_procs(tree, ss_u(1001), ss_g(2), BYTES("10")));
+	show("it pulls the holder over into its own", ss_write_procs(tree, ss_u(1001), ss_g(1), BYTES("20")));
+	show("it raises its own limit", ss_write_setting(tree, ss_u(1001), ss_g(1), BYTES("memory.max"), BYTES("max")));
+	show("it takes the holder's memory away", ss_write_setting(tree, ss_u(1001), ss_g(2), BYTES("memory.max"), BYTES("0")));
+	show("it makes the holder's cgroup its own", ss_hand_over(tree, ss_u(1001), ss_g(2), ss_u(1001)));
+	show("it makes a cgroup below the holder's", ss_make(tree, ss_u(1001), ss_g(2), ss_g(3)));
 
-	show_told("the holder saves", ss_charge(tree, 20, 500, told));
-	show_usage(1);
-	show_usage(2);
+	show_told("the holder saves", ss_charge(tree, ss_p(20), 500, told));
+	show_usage(ss_g(1));
+	show_usage(ss_g(2));
 	return 0;
 }

@@ -422,26 +422,26 @@ static void make_scene(void)
 
 	memset(&scene, 0xa5, sizeof scene);
 	ss_fresh(tree, 1024);
-	ss_write_subtree_control(tree, 0, 0, all, strlen((const char *)all));
-	ss_make(tree, 0, 0, 1);
-	ss_make(tree, 0, 0, 2);
-	ss_make(tree, 0, 2, 3);
-	ss_make(tree, 0, 0, 4);
-	ss_make(tree, 0, 0, 21);
+	ss_write_subtree_control(tree, ss_u(0), ss_g(0), all, strlen((const char *)all));
+	ss_make(tree, ss_u(0), ss_g(0), ss_g(1));
+	ss_make(tree, ss_u(0), ss_g(0), ss_g(2));
+	ss_make(tree, ss_u(0), ss_g(2), ss_g(3));
+	ss_make(tree, ss_u(0), ss_g(0), ss_g(4));
+	ss_make(tree, ss_u(0), ss_g(0), ss_g(21));
 	for (uint64_t group = 22; group <= 28; group++)
-		ss_make(tree, 0, group - 1, group);
-	ss_hand_over(tree, 0, 1, 1000);
-	ss_hand_over(tree, 0, 2, 1000);
-	ss_hand_over(tree, 0, 4, 1000);
-	ss_admit(tree, 10, 1000);
-	ss_admit(tree, 20, 2000);
-	ss_admit(tree, 30, 1000);
-	ss_write_subtree_control(tree, 0, 2, (const uint8_t *)"+memory", 7);
-	ss_write_procs(tree, 0, 1, (const uint8_t *)"10", 2);
-	ss_write_procs(tree, 0, 28, (const uint8_t *)"30", 2);
-	ss_write_setting(tree, 0, 1, (const uint8_t *)"memory.max", 10, (const uint8_t *)"8192", 4);
-	ss_write_setting(tree, 0, 1, (const uint8_t *)"pids.max", 8, (const uint8_t *)"1", 1);
-	ss_charge(tree, 10, 2, scene.told);
+		ss_make(tree, ss_u(0), ss_g(group - 1), ss_g(group));
+	ss_hand_over(tree, ss_u(0), ss_g(1), ss_u(1000));
+	ss_hand_over(tree, ss_u(0), ss_g(2), ss_u(1000));
+	ss_hand_over(tree, ss_u(0), ss_g(4), ss_u(1000));
+	ss_admit(tree, ss_p(10), ss_u(1000));
+	ss_admit(tree, ss_p(20), ss_u(2000));
+	ss_admit(tree, ss_p(30), ss_u(1000));
+	ss_write_subtree_control(tree, ss_u(0), ss_g(2), (const uint8_t *)"+memory", 7);
+	ss_write_procs(tree, ss_u(0), ss_g(1), (const uint8_t *)"10", 2);
+	ss_write_procs(tree, ss_u(0), ss_g(28), (const uint8_t *)"30", 2);
+	ss_write_setting(tree, ss_u(0), ss_g(1), (const uint8_t *)"memory.max", 10, (const uint8_t *)"8192", 4);
+	ss_write_setting(tree, ss_u(0), ss_g(1), (const uint8_t *)"pids.max", 8, (const uint8_t *)"1", 1);
+	ss_charge(tree, ss_p(10), 2, scene.told);
 	memset(scene.told, 0xa5, sizeof scene.told);
 }
 
@@ -466,34 +466,35 @@ static uint32_t answer(const struct row *row, int is_null)
 	const uint8_t *file = is_null && row->file.length == 0 ? NULL : (const uint8_t *)row->file.at;
 	const uint8_t *line = is_null && row->line.length == 0 ? NULL : (const uint8_t *)row->line.at;
 	uint8_t *reply = is_null && row->room == 0 ? NULL : lent.reply;
+	ss_user user = ss_u(row->user);
 
 	switch (row->call) {
 	case MAKE:
-		return ss_make(lent.tree, row->user, row->first, row->second);
+		return ss_make(lent.tree, user, ss_g(row->first), ss_g(row->second));
 	case REMOVE:
-		return ss_remove(lent.tree, row->user, row->first);
+		return ss_remove(lent.tree, user, ss_g(row->first));
 	case HAND_OVER:
-		return ss_hand_over(lent.tree, row->user, row->first, row->owner);
+		return ss_hand_over(lent.tree, user, ss_g(row->first), ss_u(row->owner));
 	case PROCS:
-		return ss_write_procs(lent.tree, row->user, row->first, line, row->line.length);
+		return ss_write_procs(lent.tree, user, ss_g(row->first), line, row->line.length);
 	case CONTROL:
-		return ss_write_subtree_control(lent.tree, row->user, row->first, line, row->line.length);
+		return ss_write_subtree_control(lent.tree, user, ss_g(row->first), line, row->line.length);
 	case SETTING:
-		return ss_write_setting(lent.tree, row->user, row->first, file, row->file.length, line, row->line.length);
+		return ss_write_setting(lent.tree, user, ss_g(row->first), file, row->file.length, line, row->line.length);
 	case ADMIT:
-		return ss_admit(lent.tree, row->first, row->user);
+		return ss_admit(lent.tree, ss_p(row->first), user);
 	case FORK:
-		return ss_fork(lent.tree, row->first, row->second, lent.told);
+		return ss_fork(lent.tree, ss_p(row->first), ss_p(row->second), lent.told);
 	case EXIT:
-		return ss_exit(lent.tree, row->first);
+		return ss_exit(lent.tree, ss_p(row->first));
 	case CHARGE:
-		return ss_charge(lent.tree, row->first, row->second, lent.told);
+		return ss_charge(lent.tree, ss_p(row->first), row->second, lent.told);
 	case RELEASE:
-		return ss_release(lent.tree, row->first, row->second);
+		return ss_release(lent.tree, ss_g(row->first), row->second);
 	case READ:
-		return ss_read(lent.tree, row->first, file, row->file.length, reply, row->room, lent.told);
+		return ss_read(lent.tree, ss_g(row->first), file, row->file.length, reply, row->room, lent.told);
 	case MEMBERSHIP:
-		return ss_membership(lent.tree, row->first, reply, row->room, lent.told);
+		return ss_membership(lent.tree, ss_p(row->first), reply, row->room, lent.told);
 	case WORD:
 		ss_first_bad_word(line, row->line.length, lent.told);
 		return 0;

@@ -1,6 +1,6 @@
 //! The proved host, called through the C interface.
 
-use shootspiral::sys;
+use shootspiral::{GroupId, ProcessId, User, sys};
 
 use crate::calls::Calls;
 
@@ -36,61 +36,68 @@ impl Calls for Linked {
     }
 
     fn make(&mut self, user: u32, parent: u64, group: u64) -> u32 {
-        unsafe { sys::ss_make(self.tree_mut(), user, parent, group) }
+        unsafe { sys::ss_make(self.tree_mut(), User(user), GroupId(parent), GroupId(group)) }
     }
 
     fn remove(&mut self, user: u32, group: u64) -> u32 {
-        unsafe { sys::ss_remove(self.tree_mut(), user, group) }
+        unsafe { sys::ss_remove(self.tree_mut(), User(user), GroupId(group)) }
     }
 
     fn hand_over(&mut self, user: u32, group: u64, owner: u32) -> u32 {
-        unsafe { sys::ss_hand_over(self.tree_mut(), user, group, owner) }
+        unsafe { sys::ss_hand_over(self.tree_mut(), User(user), GroupId(group), User(owner)) }
     }
 
     fn write_procs(&mut self, user: u32, group: u64, line: &[u8]) -> u32 {
+        let (user, group) = (User(user), GroupId(group));
         unsafe { sys::ss_write_procs(self.tree_mut(), user, group, line.as_ptr(), line.len()) }
     }
 
     fn write_subtree_control(&mut self, user: u32, group: u64, line: &[u8]) -> u32 {
-        let tree = self.tree_mut();
+        let (tree, user, group) = (self.tree_mut(), User(user), GroupId(group));
         unsafe { sys::ss_write_subtree_control(tree, user, group, line.as_ptr(), line.len()) }
     }
 
     fn write_setting(&mut self, user: u32, group: u64, file: &[u8], line: &[u8]) -> u32 {
-        let tree = self.tree_mut();
+        let (tree, user, group) = (self.tree_mut(), User(user), GroupId(group));
         let (name, length) = (file.as_ptr(), file.len());
         unsafe { sys::ss_write_setting(tree, user, group, name, length, line.as_ptr(), line.len()) }
     }
 
     fn admit(&mut self, process: u64, user: u32) -> u32 {
-        unsafe { sys::ss_admit(self.tree_mut(), process, user) }
+        unsafe { sys::ss_admit(self.tree_mut(), ProcessId(process), User(user)) }
     }
 
     fn fork(&mut self, parent: u64, process: u64, told: &mut [u64; 2]) -> u32 {
-        unsafe { sys::ss_fork(self.tree_mut(), parent, process, told.as_mut_ptr()) }
+        unsafe {
+            sys::ss_fork(self.tree_mut(), ProcessId(parent), ProcessId(process), told.as_mut_ptr())
+        }
     }
 
     fn exit(&mut self, process: u64) -> u32 {
-        unsafe { sys::ss_exit(self.tree_mut(), process) }
+        unsafe { sys::ss_exit(self.tree_mut(), ProcessId(process)) }
     }
 
     fn charge(&mut self, process: u64, pages: u64, told: &mut [u64; 2]) -> u32 {
-        unsafe { sys::ss_charge(self.tree_mut(), process, pages, told.as_mut_ptr()) }
+        unsafe { sys::ss_charge(self.tree_mut(), ProcessId(process), pages, told.as_mut_ptr()) }
     }
 
     fn release(&mut self, group: u64, pages: u64) -> u32 {
-        unsafe { sys::ss_release(self.tree_mut(), group, pages) }
+        unsafe { sys::ss_release(self.tree_mut(), GroupId(group), pages) }
     }
 
     fn read(&self, group: u64, file: &[u8], reply: &mut [u8], told: &mut [u64; 1]) -> u32 {
         let (name, length) = (file.as_ptr(), file.len());
         let (text, room) = (reply.as_mut_ptr(), reply.len());
-        unsafe { sys::ss_read(self.tree(), group, name, length, text, room, told.as_mut_ptr()) }
+        unsafe {
+            sys::ss_read(self.tree(), GroupId(group), name, length, text, room, told.as_mut_ptr())
+        }
     }
 
     fn membership(&self, process: u64, reply: &mut [u8], told: &mut [u64; 1]) -> u32 {
         let (text, room) = (reply.as_mut_ptr(), reply.len());
-        unsafe { sys::ss_membership(self.tree(), process, text, room, told.as_mut_ptr()) }
+        unsafe {
+            sys::ss_membership(self.tree(), ProcessId(process), text, room, told.as_mut_ptr())
+        }
     }
 
     fn first_bad_word(line: &[u8], told: &mut [u64; 2]) {

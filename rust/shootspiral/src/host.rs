@@ -58,7 +58,7 @@ impl Host {
     /// ```
     pub fn make(&mut self, user: User, parent: GroupId, group: GroupId) -> Result<(), Refusal> {
         // SAFETY: `tree` as the field says.
-        settle(unsafe { sys::ss_make(self.tree.as_mut_ptr(), user.0, parent.0, group.0) })
+        settle(unsafe { sys::ss_make(self.tree.as_mut_ptr(), user, parent, group) })
     }
 
     /// Removes `group`; its own pages pass to its parent.
@@ -76,7 +76,7 @@ impl Host {
     /// ```
     pub fn remove(&mut self, user: User, group: GroupId) -> Result<(), Refusal> {
         // SAFETY: `tree` as the field says.
-        settle(unsafe { sys::ss_remove(self.tree.as_mut_ptr(), user.0, group.0) })
+        settle(unsafe { sys::ss_remove(self.tree.as_mut_ptr(), user, group) })
     }
 
     /// Gives `group` to `owner`: delegation.
@@ -93,7 +93,7 @@ impl Host {
     /// ```
     pub fn hand_over(&mut self, user: User, group: GroupId, owner: User) -> Result<(), Refusal> {
         // SAFETY: `tree` as the field says.
-        settle(unsafe { sys::ss_hand_over(self.tree.as_mut_ptr(), user.0, group.0, owner.0) })
+        settle(unsafe { sys::ss_hand_over(self.tree.as_mut_ptr(), user, group, owner) })
     }
 
     /// Writes cgroup.procs: moves the process that the line names into `group`. Its pages stay.
@@ -122,7 +122,7 @@ impl Host {
         let line = line.as_ref();
         // SAFETY: `tree` as the field says; the line is lent whole.
         settle(unsafe {
-            sys::ss_write_procs(self.tree.as_mut_ptr(), user.0, group.0, line.as_ptr(), line.len())
+            sys::ss_write_procs(self.tree.as_mut_ptr(), user, group, line.as_ptr(), line.len())
         })
     }
 
@@ -150,8 +150,8 @@ impl Host {
         settle(unsafe {
             sys::ss_write_subtree_control(
                 self.tree.as_mut_ptr(),
-                user.0,
-                group.0,
+                user,
+                group,
                 line.as_ptr(),
                 line.len(),
             )
@@ -184,8 +184,8 @@ impl Host {
         settle(unsafe {
             sys::ss_write_setting(
                 self.tree.as_mut_ptr(),
-                user.0,
-                group.0,
+                user,
+                group,
                 file.as_ptr(),
                 file.len(),
                 line.as_ptr(),
@@ -207,7 +207,7 @@ impl Host {
     /// ```
     pub fn admit(&mut self, process: ProcessId, user: User) -> Result<(), Refusal> {
         // SAFETY: `tree` as the field says.
-        settle(unsafe { sys::ss_admit(self.tree.as_mut_ptr(), process.0, user.0) })
+        settle(unsafe { sys::ss_admit(self.tree.as_mut_ptr(), process, user) })
     }
 
     /// Forks `parent`: `process` is live in its cgroup, with its user. Answers the number of
@@ -233,7 +233,7 @@ impl Host {
         let mut told = [NO_GROUP, 0];
         // SAFETY: `tree` as the field says; `told` has two words.
         let number =
-            unsafe { sys::ss_fork(self.tree.as_mut_ptr(), parent.0, process.0, told.as_mut_ptr()) };
+            unsafe { sys::ss_fork(self.tree.as_mut_ptr(), parent, process, told.as_mut_ptr()) };
         consulted(number, told)
     }
 
@@ -251,7 +251,7 @@ impl Host {
     /// ```
     pub fn exit(&mut self, process: ProcessId) -> Result<(), Refusal> {
         // SAFETY: `tree` as the field says.
-        settle(unsafe { sys::ss_exit(self.tree.as_mut_ptr(), process.0) })
+        settle(unsafe { sys::ss_exit(self.tree.as_mut_ptr(), process) })
     }
 
     /// Charges pages to the cgroup of `process`. Answers the number of cgroups consulted.
@@ -272,7 +272,7 @@ impl Host {
         let mut told = [NO_GROUP, 0];
         // SAFETY: `tree` as the field says; `told` has two words.
         let number =
-            unsafe { sys::ss_charge(self.tree.as_mut_ptr(), process.0, pages, told.as_mut_ptr()) };
+            unsafe { sys::ss_charge(self.tree.as_mut_ptr(), process, pages, told.as_mut_ptr()) };
         consulted(number, told)
     }
 
@@ -292,7 +292,7 @@ impl Host {
     /// ```
     pub fn release(&mut self, group: GroupId, pages: u64) -> Result<(), Refusal> {
         // SAFETY: `tree` as the field says.
-        settle(unsafe { sys::ss_release(self.tree.as_mut_ptr(), group.0, pages) })
+        settle(unsafe { sys::ss_release(self.tree.as_mut_ptr(), group, pages) })
     }
 
     /// Reads a file of `group`.
@@ -339,7 +339,7 @@ impl Host {
         let number = unsafe {
             sys::ss_read(
                 self.tree.as_ptr(),
-                group.0,
+                group,
                 file.as_ptr(),
                 file.len(),
                 reply.as_mut_ptr(),
@@ -379,7 +379,7 @@ impl Host {
         let number = unsafe {
             sys::ss_membership(
                 self.tree.as_ptr(),
-                process.0,
+                process,
                 reply.as_mut_ptr(),
                 reply.len(),
                 &mut length,

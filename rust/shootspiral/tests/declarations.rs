@@ -1,7 +1,9 @@
 //! `include/shootspiral.h` and `src/sys.rs` declare what `crates/shootspiral` exports: names,
 //! arguments in order, types, results. From each exported function the declarations in C and in Rust
-//! are written out, and compared as text with those of the two files. So is the promise of each call
-//! on a tree, which the theorem of `crates/demands` stands on.
+//! are written out, and compared as text with those of the two files. A number that the function's
+//! body takes for a group or a process, as in `GroupId(parent)`, has to be declared as one. So is
+//! the promise of each call on a tree written out and compared, which the theorem of
+//! `crates/demands` stands on.
 
 use std::fs;
 use std::path::PathBuf;
@@ -16,17 +18,19 @@ fn on_one_line(text: &str) -> String {
     words.join(" ").replace("( ", "(").replace(", )", ")").replace(",)", ")")
 }
 
-/// An exported function: parameters with their types, the result, the clauses of the contract.
+/// An exported function: parameters with their types, the result, the clauses of the contract, and
+/// the body.
 struct Function {
     name: String,
     parameters: Vec<(String, String)>,
     result: String,
     clauses: Vec<String>,
+    body: String,
 }
 
 impl Function {
-    /// Reads a function from its name up to its body.
-    fn read(written: &str) -> Function {
+    /// Reads a function from its name up to its body, and takes the body as it is.
+    fn read(written: &str, body: &str) -> Function {
         let parted = on_one_line(written).replace(" requires {", "\nrequires {");
         let parted = parted.replace(" ensures {", "\nensures {");
         let mut parts = parted.lines().map(str::to_string);
@@ -40,6 +44,7 @@ impl Function {
             parameters: pairs.map(|(name, kind)| (name.to_string(), kind.to_string())).collect(),
             result: result.trim().to_string(),
             clauses: parts.collect(),
+            body: body.to_string(),
         }
     }
 
@@ -59,16 +64,30 @@ fn exported() -> Vec<Function> {
     for entry in fs::read_dir(in_repository("crates/shootspiral/src")).unwrap() {
         let text = fs::read_to_string(entry.unwrap().path()).unwrap();
         for item in text.split("#[no_mangle]\npub extern \"C\" fn ").skip(1) {
-            let (head, _body) = item.split_once("\n{").expect(item);
-            all.push(Function::read(head));
+            let (head, rest) = item.split_once("\n{\n").expect(item);
+            let (body, _) = rest.split_once("\n}\n").expect(item);
+            all.push(Function::read(head, body));
         }
     }
     all
 }
 
+/// What a number is in C and in Rust: a group or a process where the body makes it one, and a user
+/// where it has 32 bits; else a plain number.
+fn number(name: &str, kind: &str, body: &str) -> (&'static str, &'static str) {
+    let is_taken_for = |made: &str| body.contains(&format!("{made}({name})"));
+    match (kind, is_taken_for("GroupId"), is_taken_for("ProcessId")) {
+        ("u64", true, false) => ("ss_group ", "GroupId"),
+        ("u64", false, true) => ("ss_process ", "ProcessId"),
+        ("u64", false, false) => ("uint64_t ", "u64"),
+        ("u32", false, false) if name == "user" || name == "owner" => ("ss_user ", "User"),
+        _ => panic!("what kind of number is {name}: {kind} in {body}"),
+    }
+}
+
 /// What a parameter is in C and in Rust. A slice is two: a pointer, and a length with a name of its
 /// own. The words of an array are counted in C alone.
-fn parameters(name: &str, kind: &str) -> Vec<(String, String)> {
+fn parameters(name: &str, kind: &str, body: &str) -> Vec<(String, String)> {
     let length = match name {
         "line" => "length",
         "file" => "file_length",
@@ -78,8 +97,10 @@ fn parameters(name: &str, kind: &str) -> Vec<(String, String)> {
     let size = (format!("size_t {length}"), format!("{length}: usize"));
     let one = |c: &str, rust: &str| (format!("{c}{name}"), format!("{name}: {rust}"));
     match kind {
-        "u32" => vec![one("uint32_t ", "u32")],
-        "u64" => vec![one("uint64_t ", "u64")],
+        "u32" | "u64" => {
+            let (c, rust) = number(name, kind, body);
+            vec![one(c, rust)]
+        }
         "&Tree" => vec![one("const uint64_t *", "*const u64")],
         "&mut Tree" => vec![one("uint64_t *", "*mut u64")],
         "&[u8]" => vec![one("const uint8_t *", "*const u8"), size],
@@ -95,7 +116,8 @@ fn parameters(name: &str, kind: &str) -> Vec<(String, String)> {
 /// The declarations of a function in C and in Rust.
 fn declarations(function: &Function) -> (String, String) {
     let name = &function.name;
-    let arguments = function.parameters.iter().flat_map(|(name, kind)| parameters(name, kind));
+    let both = |(name, kind): &(String, String)| parameters(name, kind, &function.body);
+    let arguments = function.parameters.iter().flat_map(both);
     let (c, rust): (Vec<String>, Vec<String>) = arguments.unzip();
     let c = if c.is_empty() { "void".to_string() } else { c.join(", ") };
     let rust = rust.join(", ");
@@ -119,13 +141,28 @@ fn assert_same(mut declared: Vec<String>, mut exported: Vec<String>) {
 #[test]
 fn the_header_declares_what_is_exported() {
     let header = fs::read_to_string(in_repository("include/shootspiral.h")).unwrap();
-    let parts = header.split("/*").map(|part| part.split_once("*/").map_or(part, |two| two.1));
+    let (_sizes_and_types, functions) = header.split_once("extern \"C\" {\n").unwrap();
+    let parts = functions.split("/*").map(|part| part.split_once("*/").map_or(part, |two| two.1));
     let code: String = parts.collect();
     let lines: Vec<&str> = code.lines().filter(|line| !line.starts_with('#')).collect();
-    let code = lines.join(" ").replace("extern \"C\" {", "");
+    let code = lines.join(" ");
     let mut declared: Vec<String> = code.split(';').map(on_one_line).collect();
     assert_eq!(declared.pop().as_deref(), Some("}"));
     assert_same(declared, exported().iter().map(|function| declarations(function).0).collect());
+}
+
+/// A group, a process and a user are each passed as the exported number, and nothing else.
+#[test]
+fn the_three_kinds_are_the_numbers_that_are_exported() {
+    let header = fs::read_to_string(in_repository("include/shootspiral.h")).unwrap();
+    let rust = fs::read_to_string(in_repository("rust/shootspiral/src/number.rs")).unwrap();
+    let kinds = [("group", "GroupId", 64), ("process", "ProcessId", 64), ("user", "User", 32)];
+    for (c, name, bits) in kinds {
+        let typedef = format!("typedef struct {{ uint{bits}_t number; }} ss_{c};");
+        assert!(header.contains(&typedef), "{typedef}");
+        let item = format!("#[repr(transparent)]\npub struct {name}(pub u{bits});");
+        assert!(rust.contains(&item), "{item}");
+    }
 }
 
 #[test]
