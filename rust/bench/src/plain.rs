@@ -79,7 +79,10 @@ impl Set {
     }
 }
 
+/// At the start of a cache line, wherever the host is placed: a group that lies across two takes up to
+/// twice as long, and the comparison would go by chance.
 #[derive(Clone, Copy)]
+#[repr(align(64))]
 struct Group {
     is_live: bool,
     parent: u8,
