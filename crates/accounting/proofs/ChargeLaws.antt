@@ -20,8 +20,7 @@ use Rattle.tree.specs.Layout.{view}
 use Rattle.tree.specs.Kept.{Kept, KeptAt}
 use Rattle.tree.specs.Calling.{Applied}
 use Rattle.tree.proofs.RoomCallLaws.{RoomCall, RoomVetted}
-use Rattle.accounting.specs.Pages.{PagesAdjustable, PagesAdjusted}
-use Rattle.accounting.proofs.PagesLaws.{applied-pages}
+use Rattle.accounting.proofs.PagesLaws.{PagesAdjustable, PagesAdjusted, applied-pages}
 
 pub charge-call : (xs : List ℕ) → Kept xs → (p n : ℕ)
     → RoomCall xs (charge p n) Pages n p (chargeChecks (view xs) p n) (chargeAnswer (factsOf (view xs)) p n)

@@ -1,12 +1,12 @@
 -- Own pages and running sums changed together: after n pages more and m less in one group the sums above it are the usage.
 -- Once for what comes and what goes. Assumes nothing.
-use Prim.Native.Nat.{ℕ, _+_, _-_, _<_}
+use Prim.Native.Nat.{ℕ, _+_, _-_, _≤_, _<_}
 use native.Mathlib.Omega.{arith}
 use mathlib.Core.Bool.{Bool}
 use mathlib.Core.List.{List}
 use mathlib.Core.Path.{_≡_, refl, ap, sym, _∙_}
 use Rattle.model.specs.Functions.{upd, weigh}
-use Rattle.model.specs.Sizes.{groups}
+use Rattle.model.specs.Sizes.{groups, largestCharge}
 use Rattle.model.specs.Tree.{Tree, Core, Group, withOwn, withCore, cores, parents, places}
 use Rattle.model.specs.Hierarchy.{inside, usage}
 use Rattle.model.specs.Calls.{Call, verdict}
@@ -18,7 +18,7 @@ use Rattle.model.proofs.AmountLaws.{usage-after-adjust, population-same, own-wi
 use Rattle.tree.specs.Layout.{view, sumIn}
 use Rattle.tree.specs.Changes.{Wrote, Adjusted}
 use Rattle.tree.specs.Counters.{Adjustable}
-use Rattle.tree.specs.Kept.{countOf, Kept}
+use Rattle.tree.specs.Kept.{countOf, Settled, Kept, KeptAt}
 use Rattle.tree.specs.Calling.{Applied}
 use Rattle.tree.specs.declared.sum.Counter.{Counter}
 use Rattle.tree.specs.declared.sum.Counter.the-variants.{Of, Children}
@@ -27,7 +27,17 @@ use Rattle.tree.proofs.AdjustLaws.{counters-apart}
 use Rattle.tree.proofs.CountLaws.{children-same}
 use Rattle.tree.proofs.RoomCallLaws.{sum-after-adjust}
 use Rattle.tree.proofs.CallLaws.{applied-as}
-use Rattle.accounting.specs.Pages.{pagesSet, OwnAdjustable, PagesAdjustable, PagesAdjusted}
+use Rattle.accounting.specs.Pages.{pagesSet, OwnAdjustable}
+
+-- n pages more and m less fit a live group
+pub record PagesAdjustable (xs : List ℕ) (g n m : ℕ) : Type 0 where
+  pub home : KeptAt xs g
+  pub few : n ≤ largestCharge
+  pub enough : m ≤ view xs .group g .core .own
+
+-- the words stand for the tree with n own pages of g more and m less
+abbrev pub PagesAdjusted : List ℕ → List ℕ → ℕ → ℕ → ℕ → Type 0
+PagesAdjusted xs ys g n m = Settled ys (pagesSet (view xs) g n m)
 
 module _ (xs : List ℕ) (g n m : ℕ) (p : PagesAdjustable xs g n m) where
   group-low : g < groups

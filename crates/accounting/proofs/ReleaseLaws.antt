@@ -16,8 +16,7 @@ use Rattle.tree.specs.Layout.{view}
 use Rattle.tree.specs.Kept.{Kept, KeptAt}
 use Rattle.tree.specs.Calling.{Calling}
 use Rattle.tree.proofs.CallLaws.{call-stays, call-done}
-use Rattle.accounting.specs.Pages.{PagesAdjustable, PagesAdjusted}
-use Rattle.accounting.proofs.PagesLaws.{applied-pages}
+use Rattle.accounting.proofs.PagesLaws.{PagesAdjustable, PagesAdjusted, applied-pages}
 
 module _ (xs : List ℕ) (k : Kept xs) (g n : ℕ) (a : Answer) (d : a ≡ verdict (view xs) (release g n)) where
   pub release-refused : (e : Errno) → a ≡ Refused e → Calling xs xs (release g n) (verdict (view xs) (release g n)) a

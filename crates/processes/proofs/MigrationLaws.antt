@@ -5,7 +5,7 @@ use native.Mathlib.Omega.{arith}
 use mathlib.Core.Bool.{Bool, true, false}
 use mathlib.Core.List.{List, _++_}
 use mathlib.Core.Logic.{_≢_}
-use mathlib.Core.Path.{_≡_, refl, ap, sym, _∙_, subst}
+use mathlib.Core.Path.{_≡_, refl, ap, sym, _∙_}
 use lib.Dec.{ltb}
 use borrow.Author.Tests.{ltb-true, ltb-false, le-leb, lt-leb, eq-eqb, ne-eqb, not-true, not-false}
 use Rattle.model.specs.Functions.{known, orElse}
@@ -34,14 +34,14 @@ use Rattle.text.specs.Number.{clip, asNumber}
 use Rattle.text.specs.declared.number.Number.{Number}
 use Rattle.text.specs.declared.number.Number.the-variants.{Figure, NotANumber}
 use Rattle.tree.specs.Layout.{view}
-use Rattle.tree.specs.Counters.{listed, lowest, ChainOf}
+use Rattle.tree.specs.Counters.{listed, bottom, ChainOf}
 use Rattle.tree.specs.Kept.{Kept, KeptAt}
 use Rattle.tree.specs.Calling.{Calling}
 use Rattle.tree.specs.declared.chain.Chain.{Chain}
-use Rattle.tree.proofs.AlongLaws.{lowest-of}
+use Rattle.tree.proofs.WalkLaws.{bottom-of}
 use Rattle.tree.proofs.CallLaws.{call-refused, call-done}
-use Rattle.processes.specs.Place.{Moving, Between}
-use Rattle.processes.specs.Migration.{groupChecks, numberChecks, lineChecks, isClosed, moveChecks, namedBy, LeftBy, Migrated}
+use Rattle.processes.specs.Place.{Moving, Migratable}
+use Rattle.processes.specs.Migration.{groupChecks, numberChecks, lineChecks, isClosed, moveChecks, namedBy, MovedBy, MoveTried}
 use Rattle.processes.specs.declared.migration.Named.{Named}
 use Rattle.processes.proofs.PlaceLaws.{applied-seated}
 
@@ -121,18 +121,15 @@ module _ (t : Tree) (user p g : ℕ) where
         let c : a ≡ commonAncestor (parents t) (processGroup t p) g = f ∙ rw (h .groups, k .groups) in
         q ∙ rw (c, ne-eqb user 0 nz, ← e, eq-eqb user own y)
 
--- Between two chains: the one is that of the process's group, and their common ancestor is in range.
-module _ {xs : List ℕ} {p : ℕ} {source target : Chain} (h : Between xs p source target) where
-  pub between-from : ChainOf (view xs) (processGroup (view xs) p) source
-  between-from = subst (λ (g : ℕ). ChainOf (view xs) g source) (h .home) (h .from)
-
-  pub ancestor-low : (a : ℕ) → a ≡ firstCommon (listed source) (listed target) → a < groups
-  unfolding commonAncestor
-  ancestor-low a f =
-      let s = h .moving .to .kept .formed .sound in
-      let o = h .moving .from .home in
-      let c : a ≡ commonAncestor (parents (view xs)) (processGroup (view xs) p) (lowest target) = f ∙ rw (between-from .groups, h .to .groups) in
-      rw c (s .range _ (inside-live s _ (processGroup (view xs) p) (o .live) (ancestor-of-left s (processGroup (view xs) p) (lowest target) (o .live))))
+-- The common ancestor of both chains is in range.
+pub ancestor-low : {xs : List ℕ} {p : ℕ} {source target : Chain} → Migratable xs p source target
+    → (a : ℕ) → a ≡ firstCommon (listed source) (listed target) → a < groups
+unfolding commonAncestor
+ancestor-low {xs} {p} {source} {target} h a f =
+    let s = h .moving .to .kept .formed .sound in
+    let o = h .moving .from .home in
+    let c : a ≡ commonAncestor (parents (view xs)) (processGroup (view xs) p) (bottom target) = f ∙ rw (h .source-chain .groups, h .target-chain .groups) in
+    rw c (s .range _ (inside-live s _ (processGroup (view xs) p) (o .live) (ancestor-of-left s (processGroup (view xs) p) (bottom target) (o .live))))
 
 -- The inner-process rule.
 module _ (t : Tree) (g : ℕ) where
@@ -214,36 +211,34 @@ module _ {xs : List ℕ} {user g : ℕ} {line : List ℕ} {p : ProcessId} (v : L
         to = procs-target;
       }
 
-  lowest-is : (target : Chain) → ChainOf (view xs) g target → lowest target ≡ g
-  lowest-is target to = lowest-of (view xs) (v .kept .formed .sound) g (procs-target .live) target to
+  bottom-is : (target : Chain) → ChainOf (view xs) g target → bottom target ≡ g
+  bottom-is target to = bottom-of (view xs) (v .kept .formed .sound) g (procs-target .live) target to
 
   -- the chains are those of both groups
-  pub procs-between : (source target : Chain) → ChainOf (view xs) (processGroup (view xs) (p .0)) source → ChainOf (view xs) g target
-      → Between xs (p .0) source target
-  procs-between source target from to =
-      let home : lowest source ≡ processGroup (view xs) (p .0) =
-      lowest-of (view xs) (v .kept .formed .sound) _ (procs-moving .from .home .live) source from in
-      let here : lowest target ≡ g = lowest-is target to in
-      record { moving = rw here procs-moving; home = home; from = rw home from; to = rw here to }
+  pub procs-migratable : (source target : Chain) → ChainOf (view xs) (processGroup (view xs) (p .0)) source → ChainOf (view xs) g target
+      → Migratable xs (p .0) source target
+  procs-migratable source target from to =
+      let here : bottom target ≡ g = bottom-is target to in
+      record { moving = rw here procs-moving; source-chain = from; target-chain = rw here to }
 
   -- what the move left
   module _ (ys : List ℕ) where
-    by-answer : (a : Answer) → Migrated xs ys user (p .0) g a → Calling xs ys (writeProcs user g line) (verdict (view xs) (writeProcs user g line)) a
+    by-answer : (a : Answer) → MoveTried xs ys user (p .0) g a → Calling xs ys (writeProcs user g line) (verdict (view xs) (writeProcs user g line)) a
     unfolding effect
     by-answer a m =
         let same : a ≡ first (moveChecks (view xs) user (lineProcess line) g) =
         m .answer ∙ ap (λ (q : ℕ). first (moveChecks (view xs) user q g)) (v .number) in
         let w : verdict (view xs) (writeProcs user g line) ≡ a =
         procs-verdict xs (v .kept) user g line Done Done a (v .target) (v .text) same in
-        by-verdict a w (m .left)
+        by-verdict a w (m .words)
       where
-        by-verdict : (a : Answer) → verdict (view xs) (writeProcs user g line) ≡ a → LeftBy xs ys (p .0) g a
+        by-verdict : (a : Answer) → verdict (view xs) (writeProcs user g line) ≡ a → MovedBy xs ys (p .0) g a
             → Calling xs ys (writeProcs user g line) (verdict (view xs) (writeProcs user g line)) a
         by-verdict Done w b =
             call-done xs (v .kept) (writeProcs user g line) w ys _ _
             (applied-seated xs ys (writeProcs user g line) (p .0) _ (v .kept) w b (rw (v .number))) (sym w)
         by-verdict (Refused e) w b = rw b (call-refused xs (v .kept) (writeProcs user g line) _ _ e w (sym w))
 
-    pub migrated : (target : Chain) → ChainOf (view xs) g target → (a : Answer) → Migrated xs ys user (p .0) (lowest target) a
+    pub move-tried : (target : Chain) → ChainOf (view xs) g target → (a : Answer) → MoveTried xs ys user (p .0) (bottom target) a
         → Calling xs ys (writeProcs user g line) (verdict (view xs) (writeProcs user g line)) a
-    migrated target to a m = by-answer a (rw (lowest-is target to) at m)
+    move-tried target to a m = by-answer a (rw (bottom-is target to) at m)

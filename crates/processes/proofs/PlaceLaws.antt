@@ -22,7 +22,7 @@ use Rattle.model.proofs.AmountLaws.{place-live, place-free, population-change}
 use Rattle.model.proofs.ProcessLaws.{process-range}
 use Rattle.tree.specs.Layout.{treeWords, view, sumIn, Spare}
 use Rattle.tree.specs.Changes.{ProcessRow, Wrote, Adjusted}
-use Rattle.tree.specs.Counters.{lowest, ChainOf, Adjustable}
+use Rattle.tree.specs.Counters.{bottom, ChainOf, Adjustable}
 use Rattle.tree.specs.Kept.{countOf, Kept}
 use Rattle.tree.specs.Calling.{Applied}
 use Rattle.tree.specs.declared.chain.Chain.{Chain}
@@ -30,9 +30,10 @@ use Rattle.tree.specs.declared.sum.Counter.{Counter}
 use Rattle.tree.specs.declared.sum.Counter.the-variants.{Of, Children}
 use Rattle.tree.proofs.AdjustLaws.{counters-apart}
 use Rattle.tree.proofs.KeptLaws.{adjustable}
+use Rattle.tree.proofs.WalkLaws.{bottom-of}
 use Rattle.tree.proofs.CallLaws.{applied-as}
 use Rattle.tree.proofs.RoomCallLaws.{sum-after-adjust}
-use Rattle.processes.specs.Place.{Vacant, Standing, Between, Seated, Moved}
+use Rattle.processes.specs.Place.{Vacant, Standing, Migratable, Seated, Moved}
 
 -- what a process in that place adds to the number inside a
 abbrev counted : Tree → Place → ℕ → ℕ
@@ -47,7 +48,7 @@ counted-within t p a low l i =
     omega (arith, population-change (cores t) (places t) p nowhere a low, weigh-zero (inside (parents t) a 0))
 
 -- the sums of processes after one left `from` and came to `to`; all else is as it was
-pub record Recounted (xs ys : List ℕ) (from to : Place) : Type 0 where
+record Recounted (xs ys : List ℕ) (from to : Place) : Type 0 where
   pub long : length ys ≡ treeWords
   pub tree : view ys ≡ view xs
   pub processes : (a : ℕ) → sumIn ys (Of Processes) a + counted (view xs) from a ≡ sumIn xs (Of Processes) a + counted (view xs) to a
@@ -55,7 +56,7 @@ pub record Recounted (xs ys : List ℕ) (from to : Place) : Type 0 where
   pub spare : Spare xs → Spare ys
 
 module _ (xs ys : List ℕ) (g : ℕ) where
-  pub recounted-more : Adjusted xs ys (Of Processes) g 1 0 → Recounted xs ys nowhere (at g)
+  recounted-more : Adjusted xs ys (Of Processes) g 1 0 → Recounted xs ys nowhere (at g)
   recounted-more d =
       record {
         long = d .long;
@@ -71,7 +72,7 @@ module _ (xs ys : List ℕ) (g : ℕ) where
         spare = d .spare;
       }
 
-  pub recounted-less : ((a : ℕ) → inside (parents (view xs)) a g ≡ true → 1 ≤ sumIn xs (Of Processes) a) → Adjusted xs ys (Of Processes) g 0 1
+  recounted-less : ((a : ℕ) → inside (parents (view xs)) a g ≡ true → 1 ≤ sumIn xs (Of Processes) a) → Adjusted xs ys (Of Processes) g 0 1
       → Recounted xs ys (at g) nowhere
   recounted-less some d =
       record {
@@ -88,7 +89,7 @@ module _ (xs ys : List ℕ) (g : ℕ) where
         spare = d .spare;
       }
 
-pub recounted-then : (xs ys zs : List ℕ) (from to : Place) → Recounted xs ys from nowhere → Recounted ys zs nowhere to → Recounted xs zs from to
+recounted-then : (xs ys zs : List ℕ) (from to : Place) → Recounted xs ys from nowhere → Recounted ys zs nowhere to → Recounted xs zs from to
 recounted-then xs ys zs from to d e =
     record {
       long = e .long;
@@ -108,7 +109,7 @@ recounted-then xs ys zs from to d e =
 
 -- then the place is stored
 module _ (xs ys zs : List ℕ) (k : Kept xs) (p : ℕ) (low : p < processes) (v : Process) where
-  pub seated : Recounted xs ys (places (view xs) p) (v .place) → Wrote ys zs (atProcess (view ys) p v) → Seated xs zs p v
+  seated : Recounted xs ys (places (view xs) p) (v .place) → Wrote ys zs (atProcess (view ys) p v) → Seated xs zs p v
   seated d w =
       record {
         long = w .long;
@@ -189,18 +190,24 @@ not-more : (b : Bool) (s m : ℕ) → pick b (s + 0 - m) s ≤ s
 not-more true s m = omega arith
 not-more false s m = omega arith
 
-module _ {xs : List ℕ} {p : ℕ} {source target : Chain} (h : Between xs p source target) where
-  pub leave-along : Adjustable xs (Of Processes) (lowest source) 0 1
-  leave-along = leave-adjustable xs p (h .moving .from) (lowest source) 1 (h .home) (omega arith)
+module _ {xs : List ℕ} {p : ℕ} {source target : Chain} (h : Migratable xs p source target) where
+  source-home : bottom source ≡ processGroup (view xs) p
+  source-home = let from = h .moving .from .home in bottom-of (view xs) (from .kept .formed .sound) _ (from .live) source (h .source-chain)
 
-  module _ (ys : List ℕ) (d : Adjusted xs ys (Of Processes) (lowest source) 0 1) where
+  pub leave-chain : ChainOf (view xs) (bottom source) source
+  leave-chain = rw source-home (h .source-chain)
+
+  pub leave-along : Adjustable xs (Of Processes) (bottom source) 0 1
+  leave-along = leave-adjustable xs p (h .moving .from) (bottom source) 1 source-home (omega arith)
+
+  module _ (ys : List ℕ) (d : Adjusted xs ys (Of Processes) (bottom source) 0 1) where
     -- the other chain is the same still
-    pub to-along : ChainOf (view ys) (lowest target) target
-    to-along = subst (λ (t : Tree). ChainOf t (lowest target) target) (sym (d .tree)) (h .to)
+    pub come-chain : ChainOf (view ys) (bottom target) target
+    come-chain = subst (λ (t : Tree). ChainOf t (bottom target) target) (sym (d .tree)) (h .target-chain)
 
-    pub come-along : Adjustable ys (Of Processes) (lowest target) 1 0
+    pub come-along : Adjustable ys (Of Processes) (bottom target) 1 0
     come-along =
-        let g : ℕ = lowest target in
+        let g : ℕ = bottom target in
         let to = h .moving .to in
         let was : Adjustable xs (Of Processes) g 1 0 = adjustable xs (to .kept) g (to .live) (Of Processes) 1 0 (omega arith) (λ a i. omega arith) in
         record {
@@ -212,25 +219,25 @@ module _ {xs : List ℕ} {p : ℕ} {source target : Chain} (h : Between xs p sou
                 arith,
                 was .room a (subst (λ (t : Tree). inside (parents t) a g ≡ true) (d .tree) i),
                 d .sums a,
-                not-more (inside (parents (view xs)) a (lowest source)) (sumIn xs (Of Processes) a) 1,
+                not-more (inside (parents (view xs)) a (bottom source)) (sumIn xs (Of Processes) a) 1,
               );
           enough = λ a i. omega arith;
         }
 
-    module _ (zs : List ℕ) (e : Adjusted ys zs (Of Processes) (lowest target) 1 0) where
+    module _ (zs : List ℕ) (e : Adjusted ys zs (Of Processes) (bottom target) 1 0) where
       -- number and group have a row still
-      pub move-rows : ProcessRow zs p × (lowest target < groups)
+      pub move-rows : ProcessRow zs p × (bottom target < groups)
       move-rows =
           let to = h .moving .to in
-          (record { long = e .long; low = standing-low xs p (h .moving .from) }, to .kept .formed .sound .range (lowest target) (to .live))
+          (record { long = e .long; low = standing-low xs p (h .moving .from) }, to .kept .formed .sound .range (bottom target) (to .live))
 
-      pub relocated : (us : List ℕ) (user : ℕ) → user ≡ view zs .process p .user
-          → Wrote zs us (atProcess (view zs) p (record { place = at (lowest target); user = user })) → Moved xs us p (lowest target)
-      relocated us user q w =
-          let out : Recounted xs ys (at (processGroup (view xs) p)) nowhere = left-out xs p (h .moving .from) ys (lowest source) (h .home) d in
-          let come : Recounted ys zs nowhere (at (lowest target)) = recounted-more ys zs (lowest target) e in
+      pub moved : (us : List ℕ) (user : ℕ) → user ≡ view zs .process p .user
+          → Wrote zs us (atProcess (view zs) p (record { place = at (bottom target); user = user })) → Moved xs us p (bottom target)
+      moved us user q w =
+          let out : Recounted xs ys (at (processGroup (view xs) p)) nowhere = left-out xs p (h .moving .from) ys (bottom source) source-home d in
+          let come : Recounted ys zs nowhere (at (bottom target)) = recounted-more ys zs (bottom target) e in
           let same : user ≡ view xs .process p .user = q ∙ ap (λ (t : Tree). t .process p .user) (e .tree ∙ d .tree) in
-          seated xs zs us (h .moving .to .kept) p (standing-low xs p (h .moving .from)) (record { place = at (lowest target); user = view xs .process p .user })
+          seated xs zs us (h .moving .to .kept) p (standing-low xs p (h .moving .from)) (record { place = at (bottom target); user = view xs .process p .user })
           (rw (place-live (places (view xs) p) (h .moving .from .live)) (recounted-then xs ys zs _ _ out come)) (rw same at w)
 
 -- An accepted call whose effect is such a change.

@@ -53,12 +53,12 @@ abbrev pub namedBy : Answer → ℕ → Named
 namedBy Answer.Done p = Named.Process (record { 0 = p })
 namedBy (Answer.Refused e) p = Named.Refused e
 
--- what a move leaves, by its answer
-abbrev pub LeftBy : List ℕ → List ℕ → ℕ → ℕ → Answer → Type 0
-LeftBy xs ys p g Answer.Done = Moved xs ys p g
-LeftBy xs ys p g (Answer.Refused e) = ys ≡ xs
+-- the words that a move leaves, by its answer
+abbrev pub MovedBy : List ℕ → List ℕ → ℕ → ℕ → Answer → Type 0
+MovedBy xs ys p g Answer.Done = Moved xs ys p g
+MovedBy xs ys p g (Answer.Refused e) = ys ≡ xs
 
--- a move that the group's checks and the line's let through
-pub record Migrated (xs ys : List ℕ) (user p g : ℕ) (r : Answer) : Type 0 where
+-- a move that the group's checks and the line's let through was tried
+pub record MoveTried (xs ys : List ℕ) (user p g : ℕ) (r : Answer) : Type 0 where
   pub answer : r ≡ first (moveChecks (view xs) user p g)
-  pub left : LeftBy xs ys p g r
+  pub words : MovedBy xs ys p g r

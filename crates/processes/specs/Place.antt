@@ -8,7 +8,7 @@ use Rattle.model.specs.Sizes.{processes}
 use Rattle.model.specs.Tree.{Process, at, atProcess, isLive, places}
 use Rattle.model.specs.Rules.{processGroup}
 use Rattle.tree.specs.Layout.{view}
-use Rattle.tree.specs.Counters.{lowest, ChainOf}
+use Rattle.tree.specs.Counters.{bottom, ChainOf}
 use Rattle.tree.specs.Kept.{Settled, KeptAt}
 use Rattle.tree.specs.declared.chain.Chain.{Chain}
 
@@ -28,12 +28,11 @@ pub record Moving (xs : List ℕ) (p g : ℕ) : Type 0 where
   pub from : Standing xs p
   pub to : KeptAt xs g
 
--- a live process, the chain of its group, and the chain of a live group
-pub record Between (xs : List ℕ) (p : ℕ) (source target : Chain) : Type 0 where
-  pub moving : Moving xs p (lowest target)
-  pub home : lowest source ≡ processGroup (view xs) p
-  pub from : ChainOf (view xs) (lowest source) source
-  pub to : ChainOf (view xs) (lowest target) target
+-- a live process and a live group, with the chains of both groups
+pub record Migratable (xs : List ℕ) (p : ℕ) (source target : Chain) : Type 0 where
+  pub moving : Moving xs p (bottom target)
+  pub source-chain : ChainOf (view xs) (processGroup (view xs) p) source
+  pub target-chain : ChainOf (view xs) (bottom target) target
 
 -- the words stand for the tree where process p is v
 abbrev pub Seated : List ℕ → List ℕ → ℕ → Process → Type 0

@@ -5,11 +5,11 @@ ghost use Rattle.model.specs.Checks.{first};
 ghost use Rattle.model.specs.Rules.{mayMove, lineProcess};
 ghost use Rattle.model.specs.Calls.{writeProcs};
 ghost use Rattle.tree.specs.Layout.{view};
-ghost use Rattle.tree.specs.Counters.{lowest};
+ghost use Rattle.tree.specs.Counters.{bottom};
 ghost use Rattle.tree.specs.Kept.{Kept, KeptAt};
 ghost use Rattle.tree.specs.Calling.{Called};
-ghost use Rattle.processes.specs.Place.{Between};
-ghost use Rattle.processes.specs.Migration.{groupChecks, lineChecks, numberChecks, moveChecks, namedBy, isClosed, Migrated};
+ghost use Rattle.processes.specs.Place.{Migratable};
+ghost use Rattle.processes.specs.Migration.{groupChecks, lineChecks, numberChecks, moveChecks, namedBy, isClosed, MoveTried};
 use model::Answer;
 use model::Controller;
 use model::Errno;
@@ -91,8 +91,8 @@ fn vet_line(tree: &Tree, line: &[u8]) -> Named
 // Whether a user may move a process: user 0, or the process's own user that may write the common ancestor of both groups. The
 // chains are those of the process's group and of the group that it moves to.
 fn may_move(tree: &Tree, user: u32, process: ProcessId, source: Chain, target: Chain) -> bool
-    requires { ⌜ Between (now tree) (process .0) source target ⌝ }
-    ensures { λ r. ⌜ r ≡ mayMove (view (now (tree .entry))) user (process .0) (lowest target) ⌝ }
+    requires { ⌜ Migratable (now tree) (process .0) source target ⌝ }
+    ensures { λ r. ⌜ r ≡ mayMove (view (now (tree .entry))) user (process .0) (bottom target) ⌝ }
 {
     if user == 0 {
         return true;
@@ -122,8 +122,8 @@ fn is_closed(tree: &Tree, group: GroupId) -> bool
 
 // 13 the user may not move the process there; 16 the group is closed to processes.
 fn vet_move(tree: &Tree, user: u32, process: ProcessId, source: Chain, target: Chain) -> Answer
-    requires { ⌜ Between (now tree) (process .0) source target ⌝ }
-    ensures { λ r. ⌜ r ≡ first (moveChecks (view (now (tree .entry))) user (process .0) (lowest target)) ⌝ }
+    requires { ⌜ Migratable (now tree) (process .0) source target ⌝ }
+    ensures { λ r. ⌜ r ≡ first (moveChecks (view (now (tree .entry))) user (process .0) (bottom target)) ⌝ }
 {
     if !may_move(tree, user, process, source, target) {
         return Answer::Refused(Errno::Eacces);
@@ -134,12 +134,11 @@ fn vet_move(tree: &Tree, user: u32, process: ProcessId, source: Chain, target: C
     Answer::Done
 }
 
-// Moves a process from the lowest group of one chain to that of another, if the user may: the sums of processes have one less along
-// the one, and one more along the other. The walks are here and not in a function of their own: a chain that is handed on twice is
-// copied.
+// Moves a process from the group of one chain to the group of another, if the user may: the sums of processes have one less along the
+// one, and one more along the other. The walks are here and not in a function of their own: D103.
 fn migrate(tree: &mut Tree, user: u32, process: ProcessId, source: Chain, target: Chain) -> Answer
-    requires { ⌜ Between (now tree) (process .0) source target ⌝ }
-    ensures { λ r. ⌜ Migrated (now (tree .entry)) (now (tree .exit)) user (process .0) (lowest target) r ⌝ }
+    requires { ⌜ Migratable (now tree) (process .0) source target ⌝ }
+    ensures { λ r. ⌜ MoveTried (now (tree .entry)) (now (tree .exit)) user (process .0) (bottom target) r ⌝ }
 {
     let vetted = vet_move(tree, user, process, source, target);
     let Answer::Done = vetted else {

@@ -1,50 +1,34 @@
--- Running sums adjusted along a chain that is handed about: the chain is the way up from its lowest group, so that the walk along
+-- Running sums adjusted along a chain that is handed about: the chain is the way up from its bottom group, so that the walk along
 -- it goes on as the walk up the parents does. Assumes nothing.
 use Prim.Native.Nat.{ℕ, _+_, _-_, _≤_, _<_}
 use native.Mathlib.Omega.{arith}
-use mathlib.Core.Bool.{Bool, true}
-use mathlib.Core.List.{List, _∷_}
-use mathlib.Core.Logic.{_≢_}
-use mathlib.Core.Path.{_≡_, refl, ap, sym, _∙_}
+use mathlib.Core.List.{List}
+use mathlib.Core.Path.{_≡_, ap, sym, _∙_}
 use lib.ListN.{getD, drop}
-use Rattle.model.specs.Tree.{Tree, lives, parents, depths}
+use Rattle.model.specs.Tree.{Tree, parents}
 use Rattle.model.specs.Hierarchy.{chain}
-use Rattle.model.specs.WellFormed.{Sound}
-use Rattle.model.proofs.FunctionLaws.{whether}
-use Rattle.model.proofs.ChainLaws.{chain-root, chain-up}
+use Rattle.model.proofs.ChainLaws.{chain-up}
 use Rattle.tree.specs.Layout.{view}
 use Rattle.tree.specs.Changes.{AdjustedAt, Adjusted}
-use Rattle.tree.specs.Counters.{listed, groupAt, lowest, ChainOf, Countable, Adjustable}
+use Rattle.tree.specs.Counters.{listed, groupAt, bottom, ChainOf, Countable, Adjustable}
 use Rattle.tree.specs.declared.chain.Chain.{Chain}
 use Rattle.tree.specs.declared.sum.Counter.{Counter}
-use Rattle.tree.proofs.WalkLaws.{left-more}
+use Rattle.tree.proofs.WalkLaws.{left-more, first-of}
 use Rattle.tree.proofs.AdjustLaws.{Rising, rising-start, rising-countable, rising-next, rising-end}
-
--- the first group of a chain is the group whose chain it is
-first-of : {live : ℕ → Bool} {up depth : ℕ → ℕ} (s : Sound live up depth) (g : ℕ) → live g ≡ true → getD (chain up g) 0 0 ≡ g
-first-of {up = up} s g l =
-    whether g 0
-    (λ z. rw (z, chain-root s))
-    (λ nz. rw (chain-up s g l nz))
-
-pub lowest-of : (t : Tree) → Sound (lives t) (parents t) (depths t) → (g : ℕ) → lives t g ≡ true → (c : Chain) → ChainOf t g c → lowest c ≡ g
-lowest-of t s g l c h =
-    let whole : listed c ≡ lowest c ∷ drop 1 (listed c) = left-more c (h .whole) 0 (omega (arith, h .whole .some)) in
-    ap (λ (xs : List ℕ). getD xs 0 0) (sym whole ∙ h .groups) ∙ first-of s g l
 
 -- In the loop: the walk is at place j, whose group is reached on the way up, and what is left is its chain.
 pub record Along (xs : List ℕ) (k : Counter) (c : Chain) (n m : ℕ) (ys : List ℕ) (j : ℕ) : Type 0 where
   pub within : j + 1 ≤ c .len
-  pub rising : Rising xs k (lowest c) n m ys (groupAt c j)
+  pub rising : Rising xs k (bottom c) n m ys (groupAt c j)
   pub rest : drop j (listed c) ≡ chain (parents (view xs)) (groupAt c j)
 
-module _ (xs : List ℕ) (k : Counter) (c : Chain) (n m : ℕ) (h : ChainOf (view xs) (lowest c) c) (a : Adjustable xs k (lowest c) n m) where
+module _ (xs : List ℕ) (k : Counter) (c : Chain) (n m : ℕ) (h : ChainOf (view xs) (bottom c) c) (a : Adjustable xs k (bottom c) n m) where
   pub along-start : Along xs k c n m xs 0
-  along-start = record { within = h .whole .some; rising = rising-start xs k (lowest c) n m a; rest = h .groups }
+  along-start = record { within = h .whole .some; rising = rising-start xs k (bottom c) n m a; rest = h .groups }
 
   module _ (ys : List ℕ) (j : ℕ) (w : Along xs k c n m ys j) where
     pub along-countable : Countable ys k (groupAt c j) n m
-    along-countable = rising-countable xs k (lowest c) n m a ys (groupAt c j) (w .rising)
+    along-countable = rising-countable xs k (bottom c) n m a ys (groupAt c j) (w .rising)
 
     -- the groups above this one
     above : j + 1 < c .len → drop (j + 1) (listed c) ≡ chain (parents (view xs)) (parents (view xs) (groupAt c j))
@@ -67,7 +51,7 @@ module _ (xs : List ℕ) (k : Counter) (c : Chain) (n m : ℕ) (h : ChainOf (vie
           next-up l ∙ ap (λ (t : Tree). parents t (groupAt c j)) (sym (e .tree ∙ w .rising .tree)) in
           record {
             within = omega arith;
-            rising = rising-next xs k (lowest c) n m a ys (groupAt c j) (w .rising) zs e (h .whole .inner j l) (groupAt c (j + 1)) up;
+            rising = rising-next xs k (bottom c) n m a ys (groupAt c j) (w .rising) zs e (h .whole .inner j l) (groupAt c (j + 1)) up;
             rest = above l ∙ ap (chain (parents (view xs))) (sym (next-up l));
           }
 
@@ -79,5 +63,5 @@ module _ (xs : List ℕ) (k : Counter) (c : Chain) (n m : ℕ) (h : ChainOf (vie
       pub along-root : Countable ys k 0 n m
       along-root = rw (← at-root) along-countable
 
-      pub along-end : (zs : List ℕ) → AdjustedAt ys zs k 0 n m → Adjusted xs zs k (lowest c) n m
-      along-end zs e = rising-end xs k (lowest c) n m a ys (groupAt c j) (w .rising) zs (rw at-root e) at-root
+      pub along-end : (zs : List ℕ) → AdjustedAt ys zs k 0 n m → Adjusted xs zs k (bottom c) n m
+      along-end zs e = rising-end xs k (bottom c) n m a ys (groupAt c j) (w .rising) zs (rw at-root e) at-root

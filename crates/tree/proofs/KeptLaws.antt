@@ -1,12 +1,12 @@
 -- What follows of words that keep the invariant: sums and own pages are small, a parent has a row, chains can be searched and
 -- adjusted, and room found by the running sums is room by the definitions. Assumes nothing.
-use Prim.Native.Nat.{ℕ, zero, suc, _≤_, _<_}
+use Prim.Native.Nat.{ℕ, zero, suc, _+_, _^_, _≤_, _<_}
 use native.Mathlib.Omega.{arith}
 use mathlib.Core.Bool.{Bool, true, false}
 use mathlib.Core.List.{List}
 use mathlib.Core.Path.{_≡_, ap₂, _∙_, fun-ext}
 use Rattle.model.specs.Functions.{weigh, sum, member}
-use Rattle.model.specs.Sizes.{groups, processes, largestMachine}
+use Rattle.model.specs.Sizes.{groups, processes, largestMachine, largestCharge}
 use Rattle.model.specs.Tree.{Tree, Core, Place, nowhere, at, groupOf, cores, lives, parents, places}
 use Rattle.model.specs.Hierarchy.{childOf, chain, inside, held, ownPages, headcount, usage, population, amount, factsOf}
 use Rattle.model.specs.Rooms.{Room, actingLimit, consult, roomFor}
@@ -17,8 +17,8 @@ use Rattle.model.proofs.FunctionLaws.{split, whether, weigh-yes, weigh-no}
 use Rattle.model.proofs.ChainLaws.{inside-live, root-inside}
 use Rattle.model.proofs.AmountLaws.{own-within-usage}
 use Rattle.tree.specs.Layout.{view, sumIn}
-use Rattle.tree.specs.Counters.{listed, ChainOf, HasParent, Countable, Adjustable, Searchable}
-use Rattle.tree.specs.Kept.{children, countIn, Kept}
+use Rattle.tree.specs.Counters.{listed, ChainOf, HasParent, Countable, Adjustable}
+use Rattle.tree.specs.Kept.{children, countIn, Kept, KeptAt}
 use Rattle.tree.specs.declared.chain.Chain.{Chain}
 use Rattle.tree.specs.declared.sum.Counter.{Counter}
 use Rattle.tree.specs.declared.sum.Counter.the-variants.{Of, Children}
@@ -69,9 +69,14 @@ count-small t w (Of r) a = amount-small t w r a
 count-small t w Children a = omega (arith, children-few (cores t) a)
 
 -- The groups of a chain are live.
-pub on-chain-live : {live : ℕ → Bool} {up depth : ℕ → ℕ} (s : Sound live up depth) (g a : ℕ) → live g ≡ true → member a (chain up g) ≡ true → live a ≡ true
+on-chain-live : {live : ℕ → Bool} {up depth : ℕ → ℕ} (s : Sound live up depth) (g a : ℕ) → live g ≡ true → member a (chain up g) ≡ true → live a ≡ true
 unfolding inside
 on-chain-live s g a l m = inside-live s a g l m
+
+-- the limits and sums of a list of groups can be asked for n more
+pub record Searchable (xs : List ℕ) (r : Resource) (gs : List ℕ) (n : ℕ) : Type 0 where
+  pub live : (g : ℕ) → member g gs ≡ true → KeptAt xs g
+  pub room : (g : ℕ) → member g gs ≡ true → sumIn xs (Of r) g + n < 2 ^ 64
 
 module _ (xs : List ℕ) (k : Kept xs) where
   sum-small : (c : Counter) (a : ℕ) → sumIn xs c a ≤ largestMachine
@@ -109,14 +114,14 @@ module _ (xs : List ℕ) (k : Kept xs) where
     chain-live : (a : ℕ) → member a (listed c) ≡ true → lives (view xs) a ≡ true
     chain-live a m = on-chain-live (k .formed .sound) g a l (rw (h .groups) at m)
 
-    pub searchable : (r : Resource) (n : ℕ) → n ≤ 1048576 → Searchable xs r (listed c) n
+    pub searchable : (r : Resource) (n : ℕ) → n ≤ largestCharge → Searchable xs r (listed c) n
     searchable r n few =
         record {
           live = λ a m. record { kept = k; live = chain-live a m };
           room = λ a m. omega (arith, sum-small (Of r) a);
         }
 
-  pub adjustable : (g : ℕ) → lives (view xs) g ≡ true → (c : Counter) (n m : ℕ) → n ≤ 1048576
+  pub adjustable : (g : ℕ) → lives (view xs) g ≡ true → (c : Counter) (n m : ℕ) → n ≤ largestCharge
       → ((a : ℕ) → inside (parents (view xs)) a g ≡ true → m ≤ countIn (view xs) c a)
       → Adjustable xs c g n m
   adjustable g l c n m few enough =
@@ -129,7 +134,7 @@ module _ (xs : List ℕ) (k : Kept xs) where
         enough = λ a i. omega (arith, enough a i, k .sums c a);
       }
 
-  pub countable : (g : ℕ) → lives (view xs) g ≡ true → (c : Counter) (n m : ℕ) → n ≤ 1048576 → m ≤ countIn (view xs) c g
+  pub countable : (g : ℕ) → lives (view xs) g ≡ true → (c : Counter) (n m : ℕ) → n ≤ largestCharge → m ≤ countIn (view xs) c g
       → Countable xs c g n m
   countable g l c n m few enough =
       record {

@@ -24,7 +24,7 @@ use Rattle.model.proofs.RoomAnswerLaws.{verdict-vetted, verdict-full, verdict-r
 use Rattle.model.proofs.Steps.{process-lives}
 use Rattle.tree.specs.Layout.{view, sumIn}
 use Rattle.tree.specs.Changes.{Adjusted}
-use Rattle.tree.specs.Counters.{lowest, ChainOf, Chargeable, roomOf, Left, Tried}
+use Rattle.tree.specs.Counters.{bottom, ChainOf, Chargeable, roomOf, ChargedBy, ChargeTried}
 use Rattle.tree.specs.Kept.{Kept, KeptAt}
 use Rattle.tree.specs.Calling.{Calling, Applied}
 use Rattle.tree.specs.declared.chain.Chain.{Chain}
@@ -32,8 +32,7 @@ use Rattle.tree.specs.declared.sum.Counter.{Counter}
 use Rattle.tree.specs.declared.sum.Counter.the-variants.{Of}
 use Rattle.tree.specs.declared.counter.Search.{Search}
 use Rattle.tree.specs.declared.counter.Search.the-variants.{Fits, Full}
-use Rattle.tree.proofs.AlongLaws.{lowest-of}
-use Rattle.tree.proofs.KeptLaws.{room-found}
+use Rattle.tree.proofs.WalkLaws.{bottom-of}
 use Rattle.tree.proofs.CallLaws.{call-refused, call-done}
 
 -- A running sum after n more and m less in g and above.
@@ -70,22 +69,22 @@ module _ {xs : List ℕ} {call : Call} {r : Resource} {n p : ℕ} {cs : List Che
     room-call-home = record { kept = o .kept; live = rw (v .group) (process-lives (view xs) (o .kept .formed) p (v .live)) }
 
     module _ {c : Chain} (h : ChainOf (view xs) g c) where
-      home-is-lowest : lowest c ≡ g
-      home-is-lowest = lowest-of (view xs) (o .kept .formed .sound) g (room-call-home .live) c h
+      home-is-bottom : bottom c ≡ g
+      home-is-bottom = bottom-of (view xs) (o .kept .formed .sound) g (room-call-home .live) c h
 
       pub room-call-chargeable : n ≤ largestCharge → Chargeable xs c n
-      room-call-chargeable few = record { home = rw home-is-lowest room-call-home; chain = rw home-is-lowest h; few = few }
+      room-call-chargeable few = record { home = rw home-is-bottom room-call-home; chain = rw home-is-bottom h; few = few }
 
       -- the charge was tried
-      module _ {ys : List ℕ} {x : Search} (f : Tried xs ys c r n x) where
+      module _ {ys : List ℕ} {x : Search} (f : ChargeTried xs ys c r n x) where
         found : roomOf x ≡ roomFor (factsOf (view xs)) r n (processGroup (view xs) p)
-        found = rw (← v .group) (room-found xs (o .kept) g c h r n (roomOf x) (f .room))
+        found = rw (← v .group, ← home-is-bottom) (f .room)
 
         -- a group had no room
         pub room-call-full : (s : GroupId) (i : ℕ) → x ≡ Full s i → Calling xs ys call expected (RoomAnswer.NoRoom s i)
         room-call-full s i e =
             let y : roomFor (factsOf (view xs)) r n (processGroup (view xs) p) ≡ full (s .0) i = sym found ∙ ap roomOf e in
-            let same : ys ≡ xs = subst (Left xs ys c r n) e (f .left) in
+            let same : ys ≡ xs = subst (ChargedBy xs ys c r n) e (f .words) in
             rw same
             (call-refused xs (o .kept) call expected _ (shortage r) (o .verdict ∙ verdict-full cs _ r (v .passed) (s .0) i y)
             (sym (o .answer ∙ rw (v .passed, y))))
@@ -96,7 +95,7 @@ module _ {xs : List ℕ} {call : Call} {r : Resource} {n p : ℕ} {cs : List Che
           enough = sym found ∙ ap roomOf e
 
           pub room-call-charged : Adjusted xs ys (Of r) g n 0
-          room-call-charged = subst (λ (a : ℕ). Adjusted xs ys (Of r) a n 0) home-is-lowest (subst (Left xs ys c r n) e (f .left))
+          room-call-charged = subst (λ (a : ℕ). Adjusted xs ys (Of r) a n 0) home-is-bottom (subst (ChargedBy xs ys c r n) e (f .words))
 
           pub room-call-accepted : verdict (view xs) call ≡ Answer.Done
           room-call-accepted = o .verdict ∙ verdict-room cs _ r (v .passed) i enough

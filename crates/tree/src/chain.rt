@@ -9,7 +9,7 @@ use super::layout::CHAIN;
 use super::layout::Tree;
 use model::GroupId;
 
-// The first `len` numbers of `at`.
+// The first `len` groups of `at`.
 pub struct Chain {
     pub at: [GroupId; CHAIN],
     pub len: usize,

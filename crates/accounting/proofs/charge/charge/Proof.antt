@@ -10,8 +10,7 @@ use Rattle.tree.specs.Layout.{view}
 use Rattle.tree.specs.Changes.{Adjusted}
 use Rattle.tree.specs.declared.sum.Counter.the-variants.{Of}
 use Rattle.tree.proofs.RoomCallLaws.{RoomVetted, room-call-refused, room-call-home, room-call-chargeable, room-call-full, room-call-charged, room-call-accepted, room-call-granted}
-use Rattle.accounting.specs.Pages.{PagesAdjustable}
-use Rattle.accounting.proofs.PagesLaws.{own-adjustable, pages-adjusted}
+use Rattle.accounting.proofs.PagesLaws.{PagesAdjustable, own-adjustable, pages-adjusted}
 use Rattle.accounting.proofs.ChargeLaws.{charge-call, charge-live, charge-few, charge-vetted, charge-adjustable, charged}
 use borrow.Author.Needs.{needs}
 use Rattle.accounting.proofs.charge.charge.Statement.{statement}

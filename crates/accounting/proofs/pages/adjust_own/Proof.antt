@@ -1,10 +1,5 @@
 -- `accounting::pages::adjust_own` meets its contract. Assumes nothing.
 use native.Mathlib.Omega.{arith}
-use mathlib.Core.Path.{_≡_}
-use Prim.Native.Nat.{ℕ, _+_, _-_}
-use Rattle.tree.specs.Layout.{view}
-use Rattle.tree.specs.Changes.{Wrote, ownSet}
-use borrow.Author.Needs.{needs}
 use Rattle.accounting.proofs.pages.adjust_own.Statement.{statement}
 use Rattle.accounting.proofs.pages.adjust_own.Tie as tie
 

@@ -1,7 +1,6 @@
 -- `accounting::release::release` meets its contract: what its checks answer is the verdict, and the stores after them are the
 -- definition's effect. Assumes nothing.
-use Rattle.accounting.specs.Pages.{PagesAdjustable}
-use Rattle.accounting.proofs.PagesLaws.{sums-adjustable, own-adjustable, pages-adjusted}
+use Rattle.accounting.proofs.PagesLaws.{PagesAdjustable, sums-adjustable, own-adjustable, pages-adjusted}
 use Rattle.accounting.proofs.ReleaseLaws.{release-refused, release-adjustable, release-done}
 use borrow.Author.Needs.{needs}
 use Rattle.accounting.proofs.release.release.Statement.{statement}

@@ -1,5 +1,4 @@
 -- `processes::migration::vet_move` meets its contract: its tests are the checks, in their order. Assumes nothing.
-use native.Mathlib.Omega.{arith}
 use borrow.Author.Needs.{needs}
 use Rattle.model.proofs.VetLaws.{vets}
 use Rattle.processes.specs.Migration.{moveChecks}

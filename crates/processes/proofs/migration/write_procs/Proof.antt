@@ -11,7 +11,7 @@ use Rattle.tree.specs.Counters.{ChainOf}
 use Rattle.tree.specs.Kept.{KeptAt}
 use Rattle.processes.specs.Migration.{groupChecks}
 use Rattle.processes.proofs.PlaceLaws.{standing-low}
-use Rattle.processes.proofs.MigrationLaws.{group-refused, line-refused, LineVetted, line-vetted, procs-moving, procs-between, migrated}
+use Rattle.processes.proofs.MigrationLaws.{group-refused, line-refused, LineVetted, line-vetted, procs-moving, procs-migratable, move-tried}
 use Rattle.processes.proofs.migration.write_procs.Statement.{statement}
 use Rattle.processes.proofs.migration.write_procs.Tie as tie
 
@@ -98,13 +98,13 @@ migrate-requires : tie.Need-migrate-requires
 migrate-requires c κs =
     let k = c .before in
     let h = k .before .before in
-    procs-between (vetted (home-at (source-at h))) _ _ (from h) (k .chain-of2 .ensures)
+    procs-migratable (vetted (home-at (source-at h))) _ _ (from h) (k .chain-of2 .ensures)
 
 -- as the move answers
 returns-3 : tie.Need-returns-3
 returns-3 c =
     let k = c .before .before in
-    migrated (vetted (home-at (source-at (k .before .before)))) _ _ (k .chain-of2 .ensures) _ (c .migrate .ensures)
+    move-tried (vetted (home-at (source-at (k .before .before)))) _ _ (k .chain-of2 .ensures) _ (c .migrate .ensures)
 
 pub write-procs-spec : {M : Type 1} → statement M
 write-procs-spec =

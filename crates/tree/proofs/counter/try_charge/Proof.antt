@@ -4,13 +4,14 @@ use Prim.Native.Nat.{_+_, _≤_, _-_}
 use native.Mathlib.Omega.{arith}
 use mathlib.Core.Path.{_≡_, refl, sym, _∙_}
 use lib.ListN.{drop}
-use Rattle.model.specs.Rooms.{actingLimit, consult}
+use Rattle.model.specs.Hierarchy.{factsOf}
+use Rattle.model.specs.Rooms.{Room, actingLimit, consult, roomFor}
 use Rattle.tree.specs.Layout.{view, sumIn}
-use Rattle.tree.specs.Counters.{listed, lowest, Adjustable, Searchable}
+use Rattle.tree.specs.Counters.{listed, bottom, Adjustable}
 use Rattle.tree.specs.declared.sum.Counter.the-variants.{Of}
 use Rattle.tree.proofs.WalkLaws.{on-chain, root-on-chain, consult-here, consult-later, consult-root, consult-all}
 use Rattle.tree.proofs.AlongLaws.{Along, along-start, along-countable, along-next, along-root, along-end}
-use Rattle.tree.proofs.KeptLaws.{searchable, adjustable}
+use Rattle.tree.proofs.KeptLaws.{Searchable, searchable, adjustable, room-found}
 use Rattle.tree.proofs.counter.try_charge.Statement.{statement}
 use Rattle.tree.proofs.counter.try_charge.Tie as tie
 
@@ -30,8 +31,14 @@ abbrev μ-loop2 : tie.MeasureT-loop2
 asks : (s : tie.Start Inv-loop μ-loop Inv-loop2 μ-loop2) → Searchable (s .args .t .now) (s .args .r) (listed (s .args .t2)) (s .args .n)
 asks s = searchable _ (s .pre .home .kept) _ (s .pre .home .live) _ (s .pre .chain) _ _ (s .pre .few)
 
-room : (s : tie.Start Inv-loop μ-loop Inv-loop2 μ-loop2) → Adjustable (s .args .t .now) (Of (s .args .r)) (lowest (s .args .t2)) (s .args .n) 0
-room s = adjustable _ (s .pre .home .kept) _ (s .pre .home .live) _ _ _ (s .pre .few) (λ a i. omega arith)
+takes : (s : tie.Start Inv-loop μ-loop Inv-loop2 μ-loop2) → Adjustable (s .args .t .now) (Of (s .args .r)) (bottom (s .args .t2)) (s .args .n) 0
+takes s = adjustable _ (s .pre .home .kept) _ (s .pre .home .live) _ _ _ (s .pre .few) (λ a i. omega arith)
+
+-- room by the running sums is room by the definition
+found : (s : tie.Start Inv-loop μ-loop Inv-loop2 μ-loop2) (x : Room)
+    → x ≡ consult (actingLimit (view (s .args .t .now)) (s .args .r)) (sumIn (s .args .t .now) (Of (s .args .r))) (s .args .n) 0 (listed (s .args .t2))
+    → x ≡ roomFor (factsOf (view (s .args .t .now))) (s .args .r) (s .args .n) (bottom (s .args .t2))
+found s x e = room-found _ (s .pre .home .kept) _ _ (s .pre .chain) _ _ x e
 
 -- the start, from the walk
 abbrev walk-start : tie.At-loop2 Inv-loop μ-loop Inv-loop2 μ-loop2 → tie.Start Inv-loop μ-loop Inv-loop2 μ-loop2
@@ -66,9 +73,10 @@ returns c =
     let s = l .before in
     record {
       room =
-          consult-here (s .args .t2) (s .pre .chain .whole) (l .loop .i) _ _ (s .args .n) (omega arith)
-          (sym (c .before .is-full .ensures) ∙ c .if1 .taken) ∙ l .loop .inv .1;
-      left = refl;
+          found s _
+          (consult-here (s .args .t2) (s .pre .chain .whole) (l .loop .i) _ _ (s .args .n) (omega arith)
+          (sym (c .before .is-full .ensures) ∙ c .if1 .taken) ∙ l .loop .inv .1);
+      words = refl;
     }
 
 add-i : tie.Need-add-i Inv-loop μ-loop Inv-loop2 μ-loop2
@@ -101,13 +109,14 @@ returns-2 c =
     let s = l .before in
     record {
       room =
-          consult-root (s .args .t2) (s .pre .chain .whole) (l .loop .i) (omega arith) _ _ (s .args .n)
-          (sym (c .before .is-root-full .ensures) ∙ c .if2 .taken) ∙ l .loop .inv .1;
-      left = refl;
+          found s _
+          (consult-root (s .args .t2) (s .pre .chain .whole) (l .loop .i) (omega arith) _ _ (s .args .n)
+          (sym (c .before .is-root-full .ensures) ∙ c .if2 .taken) ∙ l .loop .inv .1);
+      words = refl;
     }
 
 loop2-holds : tie.Need-loop2-holds Inv-loop μ-loop Inv-loop2 μ-loop2
-loop2-holds c = let s = c .before .before .before .before .before in along-start _ _ _ _ _ (s .pre .chain) (room s)
+loop2-holds c = let s = c .before .before .before .before .before in along-start _ _ _ _ _ (s .pre .chain) (takes s)
 
 add-loop2 : tie.Need-add-loop2 Inv-loop μ-loop Inv-loop2 μ-loop2
 add-loop2 c = omega (arith, c .loop2 .inv .within, walk-start c .pre .chain .whole .few)
@@ -122,7 +131,7 @@ adjust-requires : tie.Need-adjust-requires Inv-loop μ-loop Inv-loop2 μ-loop2
 adjust-requires c κs =
     let l = c .before .before .before in
     let s = walk-start l in
-    along-countable _ _ _ _ _ (s .pre .chain) (room s) _ _ (l .loop2 .inv)
+    along-countable _ _ _ _ _ (s .pre .chain) (takes s) _ _ (l .loop2 .inv)
 
 add-j : tie.Need-add-j Inv-loop μ-loop Inv-loop2 μ-loop2
 add-j c = omega (arith, c .before .before .before .before .loop2 .inv .within, walk-start (c .before .before .before .before) .pre .chain .whole .few)
@@ -134,13 +143,13 @@ loop2-again : tie.Need-loop2-again Inv-loop μ-loop Inv-loop2 μ-loop2
 loop2-again c =
     let l = c .before .before .before .before in
     let s = walk-start l in
-    along-next _ _ _ _ _ (s .pre .chain) (room s) _ _ (l .loop2 .inv) _ (c .adjust .ensures) (c .before .before .before .loop2-test .taken)
+    along-next _ _ _ _ _ (s .pre .chain) (takes s) _ _ (l .loop2 .inv) _ (c .adjust .ensures) (c .before .before .before .loop2-test .taken)
 
 adjust-requires-2 : tie.Need-adjust-requires-2 Inv-loop μ-loop Inv-loop2 μ-loop2
 adjust-requires-2 c κs =
     let l = c .before .before in
     let s = walk-start l in
-    along-root _ _ _ _ _ (s .pre .chain) (room s) _ _ (l .loop2 .inv) (omega arith)
+    along-root _ _ _ _ _ (s .pre .chain) (takes s) _ _ (l .loop2 .inv) (omega arith)
 
 -- all have
 returns-3 : tie.Need-returns-3 Inv-loop μ-loop Inv-loop2 μ-loop2
@@ -151,9 +160,10 @@ returns-3 c =
     let s = l .before in
     record {
       room =
-          consult-all (s .args .t2) (s .pre .chain .whole) (l .loop .i) (omega arith) _ _ (s .args .n)
-          (sym (e .before .is-root-full .ensures) ∙ e .if2 .left) ∙ l .loop .inv .1;
-      left = along-end _ _ _ _ _ (s .pre .chain) (room s) _ _ (w .loop2 .inv) (omega arith) _ (c .adjust2 .ensures);
+          found s _
+          (consult-all (s .args .t2) (s .pre .chain .whole) (l .loop .i) (omega arith) _ _ (s .args .n)
+          (sym (e .before .is-root-full .ensures) ∙ e .if2 .left) ∙ l .loop .inv .1);
+      words = along-end _ _ _ _ _ (s .pre .chain) (takes s) _ _ (w .loop2 .inv) (omega arith) _ (c .adjust2 .ensures);
     }
 
 pub try-charge-spec : {M : Type 1} → statement M
