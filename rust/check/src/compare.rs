@@ -6,7 +6,7 @@ use std::fmt;
 
 use crate::call::{Answer, Call};
 use crate::calls::Calls;
-use crate::fault::Fault;
+use crate::fault::{Fault, Faulty};
 use crate::model::Model;
 
 /// Every file that a group can have, and one that none has.
@@ -45,10 +45,8 @@ pub enum Difference {
 /// The model and a host that were given the same calls.
 #[derive(Clone)]
 pub struct Pair<H> {
-    pub model: Model,
-    pub host: H,
-    /// Why the model refused the last call, in the paper's words.
-    pub cause: &'static str,
+    expected: Faulty,
+    host: H,
     calls: u8,
     buffers: [Vec<u8>; 2],
 }
@@ -56,27 +54,27 @@ pub struct Pair<H> {
 impl<H: Calls> Pair<H> {
     pub fn fresh(machine: u64, fault: Option<Fault>) -> Pair<H> {
         Pair {
-            model: Model::with_fault(machine, fault),
+            expected: Faulty::fresh(machine, fault),
             host: H::fresh(machine),
-            cause: "",
             calls: 0,
             buffers: [vec![FILL; ROOM + MARGIN], vec![FILL; ROOM + MARGIN]],
         }
     }
 
-    /// Makes a call on both and compares all that can be read after it. Answers the number that
-    /// the model gave.
-    pub fn step(&mut self, call: &Call) -> Result<u32, Box<Difference>> {
-        let number = self.answer(call)?;
-        self.survey()?;
-        Ok(number)
+    pub fn model(&self) -> &Model {
+        &self.expected.model
+    }
+
+    /// Makes a call on both and compares all that can be read after it.
+    pub fn step(&mut self, call: &Call) -> Result<(), Box<Difference>> {
+        self.answer(call)?;
+        self.survey()
     }
 
     /// Makes a call on both and compares the answers only.
-    pub fn answer(&mut self, call: &Call) -> Result<u32, Box<Difference>> {
+    pub fn answer(&mut self, call: &Call) -> Result<(), Box<Difference>> {
         self.calls = self.calls.wrapping_add(1);
-        let expected = call.on(&mut self.model, self.calls);
-        self.cause = if expected.number == 0 { "" } else { self.model.cause() };
+        let expected = self.expected.answer(call, self.calls);
         let stays = expected.number != 0 || call.is_question();
         let before = stays.then(|| self.host.memory().to_vec());
         let found = call.on(&mut self.host, self.calls);
@@ -89,7 +87,7 @@ impl<H: Calls> Pair<H> {
         if before.is_some_and(|before| before != self.host.memory()) {
             return Err(Box::new(Difference::Changed));
         }
-        Ok(expected.number)
+        Ok(())
     }
 
     /// Reads every file of every group and every membership line, the numbers just outside the
@@ -121,7 +119,7 @@ impl<H: Calls> Pair<H> {
     fn alike(&mut self, read: impl Fn(&dyn Reads, &mut [u8], &mut [u64; 1]) -> u32) -> bool {
         let [expected, found] = &mut self.buffers;
         let (mut expected_told, mut found_told) = ([u64::MAX], [u64::MAX]);
-        let expected_number = read(&self.model, &mut expected[..ROOM], &mut expected_told);
+        let expected_number = read(&self.expected, &mut expected[..ROOM], &mut expected_told);
         let found_number = read(&self.host, &mut found[..ROOM], &mut found_told);
         let alike =
             expected_number == found_number && expected_told == found_told && expected == found;
@@ -133,7 +131,7 @@ impl<H: Calls> Pair<H> {
     }
 
     fn later(&mut self, question: Call) -> Box<Difference> {
-        let expected = question.on(&mut self.model, self.calls);
+        let expected = self.expected.answer(&question, self.calls);
         let found = question.on(&mut self.host, self.calls);
         Box::new(Difference::Later { question, expected, found })
     }
@@ -142,8 +140,9 @@ impl<H: Calls> Pair<H> {
     /// made on a copy.
     pub fn probes(&self) -> Vec<Call> {
         let mut probes = vec![];
-        for group in self.model.live_groups() {
-            let kept = self.model.group(group).expect("a live group");
+        let model = self.model();
+        for group in model.live_groups() {
+            let kept = model.group(group).expect("a live group");
             for user in [kept.owner, kept.owner.wrapping_add(1).max(1)] {
                 probes.push(Call::WriteSubtreeControl { user, group, line: vec![] });
             }
@@ -153,8 +152,8 @@ impl<H: Calls> Pair<H> {
                 }
             }
         }
-        for process in self.model.live_processes() {
-            let kept = self.model.process(process).expect("a live process");
+        for process in model.live_processes() {
+            let kept = model.process(process).expect("a live process");
             if kept.group != 0 {
                 let (user, group) = (kept.user, kept.group);
                 let line = process.to_string().into_bytes();
@@ -173,6 +172,16 @@ trait Reads {
 }
 
 impl<H: Calls> Reads for H {
+    fn read_file(&self, group: u64, file: &[u8], reply: &mut [u8], told: &mut [u64; 1]) -> u32 {
+        self.read(group, file, reply, told)
+    }
+
+    fn membership_line(&self, process: u64, reply: &mut [u8], told: &mut [u64; 1]) -> u32 {
+        self.membership(process, reply, told)
+    }
+}
+
+impl Reads for Faulty {
     fn read_file(&self, group: u64, file: &[u8], reply: &mut [u8], told: &mut [u64; 1]) -> u32 {
         self.read(group, file, reply, told)
     }

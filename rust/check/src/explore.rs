@@ -1,19 +1,16 @@
 //! Seeds, one after the other: a list of calls for each, compared as it is made up.
 
-use std::collections::BTreeMap;
-
 use crate::call::Call;
 use crate::calls::Calls;
 use crate::compare::{Difference, Pair, replay};
+pub use crate::counts::Counts;
 use crate::fault::Fault;
 use crate::generate::Generator;
 use crate::shrink::shrink;
 
-/// What no file shows is asked for after every so many calls, and at the end of a list.
+/// What no file shows is asked for after every so many calls, and at the end of a list; then the
+/// kinds of what files do show are counted too.
 const PROBE_EVERY: usize = 16;
-
-/// How often each call was answered with each number, for which of the paper's causes.
-pub type Counts = BTreeMap<(&'static str, u32, &'static str), u64>;
 
 /// A list of calls that ends where something differs.
 pub struct Found {
@@ -35,15 +32,14 @@ pub fn explore<H: Calls>(
     let mut pair = Pair::<H>::fresh(machine, fault);
     let mut calls = vec![];
     for place in 1..=length {
-        let call = generator.next(&pair.model);
+        let call = generator.next(pair.model());
         calls.push(call.clone());
-        match pair.step(&call) {
-            Ok(number) => {
-                *counts.entry((call.name(), number, pair.cause)).or_default() += 1;
-            }
-            Err(difference) => return Some(Found { seed, machine, calls, difference }),
+        counts.call(pair.model(), &call);
+        if let Err(difference) = pair.step(&call) {
+            return Some(Found { seed, machine, calls, difference });
         }
         if place % PROBE_EVERY == 0 || place == length {
+            counts.values(pair.model());
             let mut copy = pair.clone();
             let before = calls.len();
             for probe in copy.probes() {
