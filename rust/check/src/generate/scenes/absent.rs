@@ -112,6 +112,7 @@ fn calls_on(group: u64, process: u64, live: u64) -> Vec<Call> {
         Call::WriteSubtreeControl { user, group, line: line("") },
         Call::WriteSubtreeControl { user, group, line: line("+memory") },
         Call::WriteSubtreeControl { user, group, line: line("x") },
+        Call::WriteSubtreeControl { user, group, line: vec![b' '; 129] },
         Call::WriteSetting { user, group, file: line("memory.max"), line: line("x") },
         Call::WriteSetting { user, group, file: line("memory"), line: line("1") },
         Call::Release { group, pages: 1 },

@@ -8,7 +8,7 @@ use crate::compare::FILES;
 use crate::model::{CONTROLLERS, Model};
 
 /// How many calls of a kind a scene makes.
-const CALLS: usize = 10;
+const CALLS: usize = 12;
 
 impl Generator {
     pub(super) fn cross_make(&mut self, sketch: &mut Model) {
@@ -31,7 +31,7 @@ impl Generator {
             let group = self.any_group(sketch);
             let user = self.any_user(sketch, group);
             let owner = self.user();
-            let call = match self.random.below(3) {
+            let call = match self.random.below(2) {
                 0 => Call::HandOver { user, group, owner },
                 _ => Call::Remove { user, group },
             };
@@ -204,7 +204,7 @@ impl Generator {
             words.push(format!("{sign}{}", CONTROLLERS[controller as usize]).into());
         }
         let mut line = words.join(&b' ');
-        if self.random.percent(12) {
+        if self.random.percent(20) {
             line.resize(129, b' ');
         }
         line
@@ -247,7 +247,7 @@ impl Generator {
             words.push(word);
         }
         let mut line = words.join(&b' ');
-        if self.random.percent(12) {
+        if self.random.percent(20) {
             line.resize(129, b' ');
         }
         line
