@@ -114,6 +114,7 @@ fn calls_on(group: u64, process: u64, live: u64) -> Vec<Call> {
         Call::WriteSubtreeControl { user, group, line: line("x") },
         Call::WriteSubtreeControl { user, group, line: vec![b' '; 129] },
         Call::WriteSetting { user, group, file: line("memory.max"), line: line("x") },
+        Call::WriteSetting { user, group, file: line("pids.max"), line: vec![b'0'; 129] },
         Call::WriteSetting { user, group, file: line("memory"), line: line("1") },
         Call::Release { group, pages: 1 },
         Call::Release { group, pages: 0 },
