@@ -1,0 +1,91 @@
+//! Who may: groups of several users, and moves between them.
+
+use super::super::Generator;
+use crate::call::Call;
+use crate::model::Model;
+
+impl Generator {
+    /// A group handed over to a user, who makes two below it and moves a process of his own between
+    /// them, out of them, and into another's.
+    pub(super) fn claim(&mut self, sketch: &mut Model) {
+        let user = self.random.pick(&self.taste.users);
+        let above = self.live_group(sketch);
+        let Some(claim) = self.child(sketch, 0, above) else { return };
+        self.plan(sketch, Call::HandOver { user: 0, group: claim, owner: user });
+        let Some(left) = self.child(sketch, user, claim) else { return };
+        let Some(right) = self.child(sketch, user, claim) else { return };
+        let Some(process) = self.settler(sketch, user, left) else { return };
+        self.migrate(sketch, user, process, right);
+        let elsewhere = self.live_group(sketch);
+        self.migrate(sketch, user, process, elsewhere);
+        self.migrate(sketch, user, process, above);
+        let other = self.user();
+        self.migrate(sketch, other, process, left);
+        if let Some(foreign) = self.settler(sketch, other, elsewhere) {
+            self.migrate(sketch, user, foreign, left);
+            self.migrate(sketch, user, foreign, right);
+        }
+        self.reach(sketch, left, "+memory");
+        for group in [claim, left] {
+            let (file, line) = (b"memory.max".to_vec(), b"max".to_vec());
+            self.plan(sketch, Call::WriteSetting { user, group, file, line });
+        }
+        self.plan(sketch, Call::Remove { user, group: claim });
+    }
+
+    /// 003's picture: C0 and C1 and what is below them are one user's, their parent is not. The
+    /// user moves a process from C10 to C00; then once more when the parent is the user's too.
+    pub(super) fn picture(&mut self, sketch: &mut Model) {
+        let user = self.random.pick(&self.taste.users);
+        let Some(parent) = self.child(sketch, 0, 0) else { return };
+        let mut below = vec![];
+        for _ in 0..2 {
+            let Some(group) = self.child(sketch, 0, parent) else { return };
+            self.plan(sketch, Call::HandOver { user: 0, group, owner: user });
+            let Some(inner) = self.child(sketch, user, group) else { return };
+            below.push(inner);
+        }
+        let Some(process) = self.settler(sketch, user, below[1]) else { return };
+        self.migrate(sketch, user, process, below[0]);
+        self.plan(sketch, Call::HandOver { user: 0, group: parent, owner: user });
+        self.migrate(sketch, user, process, below[0]);
+    }
+    /// Two branches of groups from one, their owners of two users and user 0 in any order; a process
+    /// of each user; moves all over them, by any of the three, while groups are handed over.
+    pub(super) fn lineage(&mut self, sketch: &mut Model) {
+        let users = [0, self.random.pick(&self.taste.users), u32::MAX, u32::MAX - 1];
+        let above = self.live_group(sketch);
+        let mut groups = vec![];
+        for parent in [None, Some(0), Some(1), Some(0), Some(3)] {
+            let parent = parent.map_or(above, |place: usize| groups[place]);
+            let Some(group) = self.child(sketch, 0, parent) else { return };
+            if sketch.group(group).is_none() {
+                return;
+            }
+            let owner = self.random.pick(&users);
+            self.plan(sketch, Call::HandOver { user: 0, group, owner });
+            groups.push(group);
+        }
+        let mut processes = vec![];
+        for user in &users[1..3] {
+            let group = self.random.pick(&groups);
+            processes.extend(self.settler(sketch, *user, group));
+        }
+        if processes.is_empty() {
+            return;
+        }
+        for _ in 0..12 {
+            let process = self.random.pick(&processes);
+            let group = self.random.pick(&groups);
+            let user = match sketch.process(process) {
+                Some(kept) if self.random.percent(70) => kept.user,
+                _ => self.random.pick(&users),
+            };
+            self.migrate(sketch, user, process, group);
+            if self.random.percent(25) {
+                let (group, owner) = (self.random.pick(&groups), self.random.pick(&users));
+                self.plan(sketch, Call::HandOver { user: 0, group, owner });
+            }
+        }
+    }
+}
