@@ -24,8 +24,10 @@ pub const FILES: [&[u8]; 11] = [
     b"cgroup.type",
 ];
 
-/// More than the longest reply, with bytes to spare after it; and the bytes after such a buffer.
+/// More than the longest list of processes, with bytes to spare after it; more than any other text;
+/// and the bytes after such a buffer.
 const ROOM: usize = 960;
+const SMALL_ROOM: usize = 48;
 const MARGIN: usize = 16;
 const FILL: u8 = 0xee;
 
@@ -45,6 +47,8 @@ pub enum Difference {
 /// The model and a host that were given the same calls.
 #[derive(Clone)]
 pub struct Pair<H> {
+    /// The machine size that both were given.
+    pub machine: u64,
     expected: Faulty,
     host: H,
     calls: u8,
@@ -54,6 +58,7 @@ pub struct Pair<H> {
 impl<H: Calls> Pair<H> {
     pub fn fresh(machine: u64, fault: Option<Fault>) -> Pair<H> {
         Pair {
+            machine,
             expected: Faulty::fresh(machine, fault),
             host: H::fresh(machine),
             calls: 0,
@@ -95,12 +100,12 @@ impl<H: Calls> Pair<H> {
     fn survey(&mut self) -> Result<(), Box<Difference>> {
         for group in 0..=64 {
             for file in FILES {
+                let room = if file == b"cgroup.procs" { ROOM } else { SMALL_ROOM };
                 let read = |host: &dyn Reads, reply: &mut [u8], told: &mut [u64; 1]| {
                     host.read_file(group, file, reply, told)
                 };
-                if !self.alike(read) {
-                    let file = file.to_vec();
-                    return Err(self.later(Call::Read { group, file, room: ROOM }));
+                if !self.alike(room, read) {
+                    return Err(self.later(Call::Read { group, file: file.to_vec(), room }));
                 }
             }
         }
@@ -108,23 +113,28 @@ impl<H: Calls> Pair<H> {
             let read = |host: &dyn Reads, reply: &mut [u8], told: &mut [u64; 1]| {
                 host.membership_line(process, reply, told)
             };
-            if !self.alike(read) {
-                return Err(self.later(Call::Membership { process, room: ROOM }));
+            if !self.alike(SMALL_ROOM, read) {
+                return Err(self.later(Call::Membership { process, room: SMALL_ROOM }));
             }
         }
         Ok(())
     }
 
-    /// Whether both answer a reading alike, every byte of the buffers included.
-    fn alike(&mut self, read: impl Fn(&dyn Reads, &mut [u8], &mut [u64; 1]) -> u32) -> bool {
-        let [expected, found] = &mut self.buffers;
+    /// Whether both answer a reading alike, every byte of the buffers and of the margins after them
+    /// included. A byte changed further on is found with the next list of processes.
+    fn alike(
+        &mut self,
+        room: usize,
+        read: impl Fn(&dyn Reads, &mut [u8], &mut [u64; 1]) -> u32,
+    ) -> bool {
+        let [expected, found] = self.buffers.each_mut().map(|buffer| &mut buffer[..room + MARGIN]);
         let (mut expected_told, mut found_told) = ([u64::MAX], [u64::MAX]);
-        let expected_number = read(&self.expected, &mut expected[..ROOM], &mut expected_told);
-        let found_number = read(&self.host, &mut found[..ROOM], &mut found_told);
+        let expected_number = read(&self.expected, &mut expected[..room], &mut expected_told);
+        let found_number = read(&self.host, &mut found[..room], &mut found_told);
         let alike =
             expected_number == found_number && expected_told == found_told && expected == found;
         // What the model wrote is filled again; a host that wrote more was not alike.
-        let written = (expected_told[0] as usize).min(ROOM - 1) + 1;
+        let written = (expected_told[0] as usize).min(room - 1) + 1;
         expected[..written].fill(FILL);
         found[..written].fill(FILL);
         alike

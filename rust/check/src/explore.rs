@@ -1,23 +1,49 @@
 //! Seeds, one after the other: a list of calls for each, compared as it is made up.
 
+use std::ops::Range;
+use std::time::Duration;
+
 use crate::call::Call;
 use crate::calls::Calls;
 use crate::compare::{Difference, Pair, replay};
 pub use crate::counts::Counts;
 use crate::fault::Fault;
 use crate::generate::Generator;
+use crate::heap;
+use crate::model::Model;
 use crate::shrink::shrink;
 
 /// What no file shows is asked for after every so many calls, and at the end of a list; then the
 /// kinds of what files do show are counted too.
 const PROBE_EVERY: usize = 16;
 
+/// How long to look for a shorter list. That a fault is found matters more than how shortly.
+const PATIENCE: Duration = Duration::from_secs(30);
+const PATIENCE_WITH_FAULT: Duration = Duration::from_secs(1);
+
 /// A list of calls that ends where something differs.
 pub struct Found {
-    pub seed: u64,
+    /// The seed, or the name of a list that has none.
+    pub name: String,
     pub machine: u64,
     pub calls: Vec<Call>,
     pub difference: Box<Difference>,
+}
+
+/// Compares the lists of all seeds, then the one that no seed comes to. Answers the first list
+/// after which something differs.
+pub fn search<H: Calls>(
+    mut seeds: Range<u64>,
+    length: usize,
+    fault: Option<Fault>,
+    counts: &mut Counts,
+) -> Option<Found> {
+    let found = seeds.find_map(|seed| explore::<H>(seed, length, fault, counts));
+    found.or_else(|| {
+        let mut calls = heap::calls().into_iter();
+        let pair = Pair::<H>::fresh(heap::MACHINE, fault);
+        follow("heap", pair, calls.len(), |_| calls.next().expect("so many"), counts)
+    })
 }
 
 /// Makes up and compares a list of calls. Answers the list if something differs.
@@ -28,15 +54,26 @@ pub fn explore<H: Calls>(
     counts: &mut Counts,
 ) -> Option<Found> {
     let mut generator = Generator::new(seed);
-    let machine = generator.machine();
-    let mut pair = Pair::<H>::fresh(machine, fault);
+    let pair = Pair::<H>::fresh(generator.machine(), fault);
+    follow(&format!("seed_{seed}"), pair, length, |model| generator.next(model), counts)
+}
+
+fn follow<H: Calls>(
+    name: &str,
+    mut pair: Pair<H>,
+    length: usize,
+    mut next: impl FnMut(&Model) -> Call,
+    counts: &mut Counts,
+) -> Option<Found> {
+    let machine = pair.machine;
     let mut calls = vec![];
+    let found = |calls, difference| Some(Found { name: name.into(), machine, calls, difference });
     for place in 1..=length {
-        let call = generator.next(pair.model());
+        let call = next(pair.model());
         calls.push(call.clone());
         counts.call(pair.model(), &call);
         if let Err(difference) = pair.step(&call) {
-            return Some(Found { seed, machine, calls, difference });
+            return found(calls, difference);
         }
         if place % PROBE_EVERY == 0 || place == length {
             counts.values(pair.model());
@@ -45,7 +82,7 @@ pub fn explore<H: Calls>(
             for probe in copy.probes() {
                 calls.push(probe.clone());
                 if let Err(difference) = copy.answer(&probe) {
-                    return Some(Found { seed, machine, calls, difference });
+                    return found(calls, difference);
                 }
             }
             calls.truncate(before);
@@ -57,19 +94,20 @@ pub fn explore<H: Calls>(
 impl Found {
     /// The shortest list that still shows a difference, not always the same one.
     pub fn shortest<H: Calls>(self, fault: Option<Fault>) -> Found {
-        let Found { seed, machine, calls, difference } = self;
+        let Found { name, machine, calls, difference } = self;
+        let patience = if fault.is_some() { PATIENCE_WITH_FAULT } else { PATIENCE };
         let fails = |calls: &[Call]| replay::<H>(machine, calls, fault).map(|(place, _)| place + 1);
-        let calls = shrink(calls, fails);
+        let calls = shrink(calls, patience, fails);
         let difference = match replay::<H>(machine, &calls, fault) {
             Some((_, difference)) => difference,
             None => difference,
         };
-        Found { seed, machine, calls, difference }
+        Found { name, machine, calls, difference }
     }
 
     /// The list as a test that can be pasted into `tests/lists.rs`.
     pub fn as_test(&self) -> String {
-        let mut text = format!("#[test]\nfn seed_{}() {{\n", self.seed);
+        let mut text = format!("#[test]\nfn {}() {{\n", self.name);
         text += &format!("    agree::<Linked>({}, &[\n", self.machine);
         for call in &self.calls {
             text += &format!("        {call},\n");

@@ -5,7 +5,7 @@
 //! - [`checks`]: the table of all checks, by which the model names its refusals
 //! - [`linked`]: the proved host, behind the C interface
 //! - [`calls`], [`call`]: what both answer, as a trait and as a value
-//! - [`generate`]: lists of calls from a seed
+//! - [`generate`], [`heap`]: lists of calls from a seed, and one that no seed comes to
 //! - [`compare`], [`explore`]: one list, and many
 //! - [`counts`], [`kinds`]: what the lists came to, and what they never did
 //! - [`shrink`]: a short list from a long one
@@ -19,6 +19,7 @@ pub mod counts;
 pub mod explore;
 pub mod fault;
 pub mod generate;
+pub mod heap;
 pub mod kinds;
 pub mod linked;
 pub mod model;

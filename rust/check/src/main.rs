@@ -7,7 +7,7 @@ use std::process::ExitCode;
 use std::time::Instant;
 
 use shootspiral_check::Linked;
-use shootspiral_check::explore::{Counts, Found, explore};
+use shootspiral_check::explore::{Counts, Found, search};
 use shootspiral_check::fault::Fault;
 
 const USAGE: &str = "\
@@ -79,23 +79,25 @@ fn parse(words: &[String]) -> Option<Task> {
     Some(task)
 }
 
-/// The first list after which something differs, if there is one.
-fn search(task: &Task, fault: Option<Fault>, counts: &mut Counts) -> Option<Found> {
-    let mut seeds = task.first..task.first.saturating_add(task.seeds);
-    seeds.find_map(|seed| explore::<Linked>(seed, task.calls, fault, counts))
+impl Task {
+    fn search(&self, fault: Option<Fault>, counts: &mut Counts) -> Option<Found> {
+        let seeds = self.first..self.first.saturating_add(self.seeds);
+        search::<Linked>(seeds, self.calls, fault, counts)
+    }
 }
 
-/// Compares all seeds. Answers whether all are alike, and every row reached if that is asked.
+/// Compares all lists. Answers whether all are alike, and every row reached if that is asked.
 fn compare(task: &Task) -> bool {
     let start = Instant::now();
     let mut counts = Counts::new();
-    if let Some(found) = search(task, None, &mut counts) {
+    if let Some(found) = task.search(None, &mut counts) {
         report(found, None, counts.all());
         return false;
     }
     let (calls, refused) = (counts.all(), counts.refused());
     let seconds = start.elapsed().as_secs_f64();
-    println!("{} seeds from {}, {calls} calls, {refused} refused", task.seeds, task.first);
+    println!("{} seeds from {} and the heap", task.seeds, task.first);
+    println!("{calls} calls, {refused} refused");
     println!("all alike, {seconds:.1} s, {:.2} s for 100,000 calls", seconds * 1e5 / calls as f64);
     if !task.reached {
         return true;
@@ -115,7 +117,7 @@ fn find(task: &Task) -> bool {
         let fault = Fault::ALL[number - 1];
         let mut counts = Counts::new();
         println!("fault {number}: {fault}");
-        match search(task, Some(fault), &mut counts) {
+        match task.search(Some(fault), &mut counts) {
             Some(found) => report(found, Some(fault), counts.all()),
             None => {
                 println!("not found in {} calls\n", counts.all());
@@ -130,7 +132,7 @@ fn find(task: &Task) -> bool {
 }
 
 fn report(found: Found, fault: Option<Fault>, calls: u64) {
-    println!("seed {} differs after {} of its calls", found.seed, found.calls.len());
+    println!("{} differs after {} of its calls", found.name, found.calls.len());
     println!("({calls} calls in all)");
     let found = found.shortest::<Linked>(fault);
     println!("shortest list found, {} calls:\n\n{}", found.calls.len(), found.as_test());

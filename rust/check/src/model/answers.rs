@@ -36,7 +36,10 @@ impl Model {
             }
             Call::Release { group, pages } => self.release_checks(*group, *pages).into(),
             Call::Read { group, file, room } => self.read_checks(*group, file, *room),
-            Call::Membership { process, room } => self.membership_checks(*process, *room).into(),
+            Call::Membership { process, room } => {
+                let line = self.membership_line(*process);
+                self.membership_checks(*process, &line, *room).into()
+            }
             Call::FirstBadWord { .. } => vec![],
         }
     }

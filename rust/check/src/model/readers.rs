@@ -3,18 +3,23 @@
 use super::*;
 use crate::checks::{membership, read};
 
-/// The controller without which a file is absent.
-fn controller_of(file: &[u8]) -> Option<usize> {
-    match file {
-        b"memory.current" | b"memory.max" => Some(MEMORY),
-        b"pids.current" | b"pids.max" => Some(PIDS),
-        b"cpu.weight" | b"cpu.max" => Some(CPU),
-        _ => None,
-    }
+/// Where a file is there.
+enum There {
+    Everywhere,
+    BelowTheRoot,
+    WhereOn(usize),
+    Nowhere,
 }
 
-fn is_everywhere(file: &[u8]) -> bool {
-    matches!(file, b"cgroup.procs" | b"cgroup.controllers" | b"cgroup.subtree_control")
+fn there(file: &[u8]) -> There {
+    match file {
+        b"cgroup.procs" | b"cgroup.controllers" | b"cgroup.subtree_control" => There::Everywhere,
+        b"cgroup.events" => There::BelowTheRoot,
+        b"memory.current" | b"memory.max" => There::WhereOn(MEMORY),
+        b"pids.current" | b"pids.max" => There::WhereOn(PIDS),
+        b"cpu.weight" | b"cpu.max" => There::WhereOn(CPU),
+        _ => There::Nowhere,
+    }
 }
 
 fn listed(is_listed: impl Fn(usize) -> bool) -> String {
@@ -53,15 +58,13 @@ impl Model {
     }
 
     fn file_checks(&self, group: u64, file: &[u8]) -> [Test; 5] {
-        let is_events = file == b"cgroup.events";
-        let controller = controller_of(file);
-        let is_file = is_events || controller.is_some() || is_everywhere(file);
+        let there = there(file);
         [
             (group > LAST_GROUP, read::ABOVE_63),
             (self.group(group).is_none(), read::NOT_LIVE),
-            (!is_file, read::NO_SUCH_FILE),
-            (is_events && group == ROOT, read::EVENTS_ON_ROOT),
-            (controller.is_some_and(|k| !self.is_on(k, group)), read::NOT_ON),
+            (matches!(there, There::Nowhere), read::NO_SUCH_FILE),
+            (matches!(there, There::BelowTheRoot) && group == ROOT, read::EVENTS_ON_ROOT),
+            (matches!(there, There::WhereOn(k) if !self.is_on(k, group)), read::NOT_ON),
         ]
     }
 
@@ -93,7 +96,7 @@ impl Model {
 // Membership lines.
 impl Model {
     /// "0::" and the path, from the root's child down; empty if the process is not live.
-    fn membership_line(&self, process: u64) -> String {
+    pub(super) fn membership_line(&self, process: u64) -> String {
         let Some(process) = self.process(process) else { return String::new() };
         let below_root = self.chain(process.group).into_iter().rev().skip(1);
         let path: String = below_root.map(|group| format!("/{group}")).collect();
@@ -101,8 +104,7 @@ impl Model {
         format!("0::{path}\n")
     }
 
-    pub(super) fn membership_checks(&self, process: u64, room: usize) -> [Test; 3] {
-        let line = self.membership_line(process);
+    pub(super) fn membership_checks(&self, process: u64, line: &str, room: usize) -> [Test; 3] {
         [
             (is_outside(process), membership::OUTSIDE),
             (self.process(process).is_none(), membership::NOT_LIVE),
@@ -117,8 +119,9 @@ impl Model {
         told: &mut [u64; 1],
     ) -> Verdict {
         *told = [0];
-        decide(&self.membership_checks(process, reply.len()))?;
-        deliver(&self.membership_line(process), reply, told);
+        let line = self.membership_line(process);
+        decide(&self.membership_checks(process, &line, reply.len()))?;
+        deliver(&line, reply, told);
         Ok(())
     }
 }
