@@ -37,7 +37,7 @@ const BY_DICE: [Scene; 11] = [
 ];
 
 /// Scenes that come one after the other.
-const IN_TURN: [Scene; 18] = [
+const IN_TURN: [Scene; 17] = [
     Generator::cross_make,
     Generator::bounds,
     Generator::cross_control,
@@ -53,7 +53,6 @@ const IN_TURN: [Scene; 18] = [
     Generator::cross_pages,
     Generator::odd_controls,
     Generator::departed,
-    Generator::bounds,
     Generator::cross_reads,
     Generator::long_lines,
 ];
@@ -83,7 +82,7 @@ impl Generator {
 
     /// The next of a table's rows, so many that a run of seeds comes to all of them.
     fn rows<T: Clone>(&mut self, table: &[T]) -> Vec<T> {
-        const ROWS: usize = 12;
+        const ROWS: usize = 20;
         let first = (self.turn as usize / IN_TURN.len() * ROWS) % table.len();
         table.iter().cycle().skip(first).take(ROWS.min(table.len())).cloned().collect()
     }

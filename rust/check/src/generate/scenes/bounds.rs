@@ -86,7 +86,8 @@ fn setting_lines(file: &[u8]) -> Vec<String> {
         lines.push(line.into());
     }
     lines.push(format!("{low} {low} {low}"));
-    lines.push("max 1000 1000".into());
+    lines.extend(["max 1000 1000", "x 1", "x 1000"].map(String::from));
+    lines.extend(["x", "5:"].map(|word| format!("{} {word}", high + 1)));
     if file == b"memory.max" {
         let bytes = ["4095", "4096", "4097", "8191", "68719476735", "68719476737"];
         lines.extend(bytes.map(String::from));
@@ -99,6 +100,9 @@ fn setting_lines(file: &[u8]) -> Vec<String> {
             lines.push(format!("2000 {period}"));
             lines.push(format!("max 0{period}\n"));
             lines.push(format!("999 {period}"));
+        }
+        for word in ["x", "max", "5:", "-1"] {
+            lines.extend(["999", "1000", "max"].map(|quota| format!("{quota} {word}")));
         }
     }
     lines

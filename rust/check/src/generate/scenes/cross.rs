@@ -137,7 +137,7 @@ impl Generator {
 impl Generator {
     pub(super) fn any_group(&mut self, sketch: &Model) -> u64 {
         let below_root = sketch.live_groups().filter(|&group| group != 0);
-        let of_kind = match self.random.below(9) {
+        let of_kind = match self.random.below(10) {
             0 => Some(self.random.pick(&[64, 65, 127, 128, 256, 1 << 32, 1 << 63, u64::MAX])),
             1 => self.free_group(sketch),
             2 => Some(0),
@@ -147,8 +147,8 @@ impl Generator {
                     |&group: &u64| sketch.group(group).is_some_and(|g| g.set.contains(&true));
                 self.random.one_of(below_root.filter(has_set))
             }
-            6 => self.random.one_of(below_root.filter(|&g| sketch.holds(g).next().is_some())),
-            7 => self.random.one_of(below_root.filter(|&g| sketch.children(g).next().is_some())),
+            6 | 7 => self.random.one_of(below_root.filter(|&g| sketch.holds(g).next().is_some())),
+            8 => self.random.one_of(below_root.filter(|&g| sketch.children(g).next().is_some())),
             _ => None,
         };
         of_kind.unwrap_or_else(|| self.live_group(sketch))

@@ -19,11 +19,15 @@ impl Generator {
         let Some(process) = self.free_process(sketch) else { return };
         self.plan(sketch, Call::Admit { process, user: 0 });
         for byte in self.rows(&NEIGHBOURS) {
-            let file = self.random.pick(&SETTINGS);
-            let line = self.number_with(b"2345", byte);
-            self.plan(sketch, Call::WriteSetting { user: 0, group, file: file.to_vec(), line });
-            let line = self.number_with(process.to_string().as_bytes(), byte);
-            self.plan(sketch, Call::WriteProcs { user: 0, group, line });
+            let call = if self.random.percent(50) {
+                let line = self.number_with(process.to_string().as_bytes(), byte);
+                Call::WriteProcs { user: 0, group, line }
+            } else {
+                let file = self.random.pick(&SETTINGS).to_vec();
+                let line = self.number_with(b"2345", byte);
+                Call::WriteSetting { user: 0, group, file, line }
+            };
+            self.plan(sketch, call);
         }
         for _ in 0..6 {
             let file = self.random.pick(&SETTINGS);
