@@ -3,6 +3,7 @@
 
 use super::super::Generator;
 use super::super::arguments::SETTINGS;
+use super::stage::has_set;
 use crate::call::Call;
 use crate::model::Model;
 
@@ -43,10 +44,8 @@ impl Generator {
 
     /// A group with all controllers on and no set, so that a line alone decides.
     pub(super) fn open_group(&mut self, sketch: &mut Model) -> Option<u64> {
-        let is_open = |&group: &u64| {
-            (0..3).all(|k| sketch.is_on(k, group))
-                && sketch.group(group).is_some_and(|kept| !kept.set.contains(&true))
-        };
+        let is_open =
+            |&group: &u64| (0..3).all(|k| sketch.is_on(k, group)) && !has_set(sketch, group);
         let open = self.random.one_of(sketch.live_groups().filter(is_open));
         open.or_else(|| {
             let group = self.child(sketch, 0, 0)?;

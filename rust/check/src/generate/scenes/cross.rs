@@ -3,6 +3,7 @@
 
 use super::super::Generator;
 use super::super::arguments::{ODD_FILES, SETTINGS};
+use super::stage::{has_set, stacked};
 use crate::call::Call;
 use crate::compare::FILES;
 use crate::model::{CONTROLLERS, Model};
@@ -62,7 +63,10 @@ impl Generator {
     pub(super) fn cross_control(&mut self, sketch: &mut Model) {
         self.furnish(sketch);
         for _ in 0..CALLS {
-            let group = self.any_group(sketch);
+            let group = match self.random.one_of(stacked(sketch)) {
+                Some(group) if self.random.percent(30) => group,
+                _ => self.any_group(sketch),
+            };
             let user = self.any_user(sketch, group);
             let line = self.any_control_line(sketch, group);
             self.plan(sketch, Call::WriteSubtreeControl { user, group, line });
@@ -142,11 +146,8 @@ impl Generator {
             1 => self.free_group(sketch),
             2 => Some(0),
             3 => self.random.one_of(below_root.filter(|&group| sketch.depth(group) == 8)),
-            4 | 5 => {
-                let has_set =
-                    |&group: &u64| sketch.group(group).is_some_and(|g| g.set.contains(&true));
-                self.random.one_of(below_root.filter(has_set))
-            }
+            4 => self.random.one_of(below_root.filter(|&group| has_set(sketch, group))),
+            5 => self.random.one_of(stacked(sketch)),
             6 | 7 => self.random.one_of(below_root.filter(|&g| sketch.holds(g).next().is_some())),
             8 => self.random.one_of(below_root.filter(|&g| sketch.children(g).next().is_some())),
             _ => None,

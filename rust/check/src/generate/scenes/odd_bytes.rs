@@ -13,13 +13,13 @@ const NEIGHBOURS: [u8; 20] = [
 ];
 
 impl Generator {
-    /// Some numbers with such a byte in the place of a digit or beside it, and "max" by one letter.
+    /// Numbers with such a byte in the place of a digit or beside it, and "max" by one letter.
     pub(super) fn odd_numbers(&mut self, sketch: &mut Model) {
         let Some(group) = self.open_group(sketch) else { return };
         let Some(process) = self.free_process(sketch) else { return };
         self.plan(sketch, Call::Admit { process, user: 0 });
-        for byte in self.rows(&NEIGHBOURS) {
-            let call = if self.random.percent(50) {
+        for (place, byte) in (self.round()..).zip(NEIGHBOURS) {
+            let call = if place % 2 == 0 {
                 let line = self.number_with(process.to_string().as_bytes(), byte);
                 Call::WriteProcs { user: 0, group, line }
             } else {
@@ -36,11 +36,11 @@ impl Generator {
         }
     }
 
-    /// Some control words wrong by one byte, alone or among good ones, asked about and written.
+    /// Control words wrong by one byte, alone or among good ones, asked about and written.
     pub(super) fn odd_controls(&mut self, sketch: &mut Model) {
-        for byte in self.rows(&NEIGHBOURS) {
+        for (place, byte) in (self.round()..).zip(NEIGHBOURS) {
             let name = self.random.pick(&CONTROLLERS);
-            let word = match self.random.below(3) {
+            let word = match place % 3 {
                 0 => [&[byte], name.as_bytes()].concat(),
                 1 => {
                     let word = format!("+{name}");
