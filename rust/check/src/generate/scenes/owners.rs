@@ -52,7 +52,7 @@ impl Generator {
     }
     /// Groups at three levels, most of them one user's, the others another's or user 0's; a process
     /// of each user; moves all over the groups, while some are handed over. Then a group and a
-    /// process of two users whose numbers differ in one bit.
+    /// process of users whose numbers differ in one bit.
     pub(super) fn lineage(&mut self, sketch: &mut Model) {
         let user = self.random.pick(&self.taste.users);
         let other = self.random.pick(&[user.wrapping_add(1), u32::MAX, u32::MAX - 1]);
@@ -85,11 +85,13 @@ impl Generator {
                 self.plan(sketch, Call::HandOver { user: 0, group, owner });
             }
         }
-        let alias = user ^ (1 << (self.round() % 32));
         let group = self.random.pick(&groups[1..]);
-        self.plan(sketch, Call::HandOver { user: 0, group, owner: alias });
         self.migrate(sketch, 0, processes[0], group);
-        self.migrate(sketch, alias, processes[0], group);
-        self.migrate(sketch, user, processes[0], group);
+        for place in [0, 1] {
+            let alias = user ^ (1 << ((2 * self.round() + place) % 32));
+            self.plan(sketch, Call::HandOver { user: 0, group, owner: alias });
+            self.migrate(sketch, alias, processes[0], group);
+            self.migrate(sketch, user, processes[0], group);
+        }
     }
 }
