@@ -19,7 +19,7 @@ mod taste;
 use taste::{Kind, Taste};
 
 /// How many scenes a list of a few hundred calls takes from those that come in turn.
-const TURNS: u64 = 7;
+const TURNS: u64 = 5;
 
 pub struct Generator {
     random: Random,

@@ -37,7 +37,7 @@ const BY_DICE: [Scene; 11] = [
 ];
 
 /// Scenes that come one after the other.
-const IN_TURN: [Scene; 18] = [
+const IN_TURN: [Scene; 17] = [
     Generator::cross_make,
     Generator::bounds,
     Generator::cross_control,
@@ -53,16 +53,16 @@ const IN_TURN: [Scene; 18] = [
     Generator::cross_pages,
     Generator::odd_controls,
     Generator::departed,
-    Generator::bounds,
     Generator::cross_reads,
     Generator::long_lines,
 ];
 
 impl Generator {
-    /// The first scene of a list. Few seeds take most of their calls for one.
+    /// The first scene of a list. One seed of twenty takes most of its calls for one; not the
+    /// first, for a fault that shows there is long to tell.
     pub(super) fn opening(&mut self, seed: u64, model: &Model) {
         let mut sketch = model.clone();
-        if seed % 20 == 3 {
+        if seed % 20 == 19 {
             self.full_house(&mut sketch);
         } else if self.random.percent(80) {
             let words =
@@ -81,11 +81,16 @@ impl Generator {
         scene(self, &mut model.clone());
     }
 
-    /// The next of a table's rows, so many that a run of seeds comes to all of them.
-    fn rows<T: Clone>(&mut self, table: &[T]) -> Vec<T> {
-        const ROWS: usize = 12;
-        let first = (self.turn as usize / IN_TURN.len() * ROWS) % table.len();
-        table.iter().cycle().skip(first).take(ROWS.min(table.len())).cloned().collect()
+    /// How often each of the scenes that come in turn has come, as far as a seed can tell.
+    fn round(&self) -> usize {
+        self.turn as usize / IN_TURN.len()
+    }
+
+    /// The next rows of a table, so many that a run of seeds comes to all of them.
+    fn rows<T: Clone>(&self, table: &[T]) -> Vec<T> {
+        const ROWS: usize = 20;
+        let first = self.round() * ROWS % table.len();
+        table.iter().cycle().skip(first).take(ROWS).cloned().collect()
     }
 
     pub(super) fn plan(&mut self, sketch: &mut Model, call: Call) {

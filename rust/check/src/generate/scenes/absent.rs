@@ -1,4 +1,4 @@
-//! Numbers in range that are not live: never yet, or not any more.
+//! Numbers that are not live: not yet, or not any more.
 
 use super::super::Generator;
 use super::super::arguments::SETTINGS;
@@ -9,8 +9,8 @@ use crate::model::Model;
 const ALL: &str = "+cpu +memory +pids";
 
 impl Generator {
-    /// A group that had everything and is removed, or one that never was; every call on its number;
-    /// then it is made under another parent, by another user, where all its settings show.
+    /// A group that had everything and is removed; every call on its number, on one that never was
+    /// live or on one above 63; then it is made again under another parent, by another user, where all its settings show.
     pub(super) fn afterlife(&mut self, sketch: &mut Model) {
         let above = self.live_group(sketch);
         let Some(group) = self.child(sketch, 0, above) else { return };
@@ -19,10 +19,13 @@ impl Generator {
         self.plan(sketch, Call::Remove { user: 0, group });
 
         let Some(process) = self.random.one_of(sketch.live_processes()) else { return };
-        let (Some(never), live) = (self.free_group(sketch), self.live_group(sketch)) else {
-            return;
+        let never = self.free_group(sketch).unwrap_or(group);
+        let live = self.live_group(sketch);
+        let absent = match self.random.below(10) {
+            0..6 => group,
+            6 | 7 => never,
+            _ => self.random.pick(&[64, 65, 128, 1 << 32, u64::MAX]),
         };
-        let absent = if self.random.percent(70) { group } else { never };
         for mut call in calls_on(absent, process, live) {
             let anyone = self.random.pick(&[0, owner, owner.wrapping_add(1)]);
             set_user(&mut call, anyone);
@@ -54,7 +57,8 @@ impl Generator {
         self.set(sketch, group, "memory.max", 40_960);
         self.set(sketch, group, "pids.max", 2);
         self.set(sketch, group, "cpu.weight", 9);
-        self.set(sketch, group, "cpu.max", 5_000);
+        let (file, line) = (b"cpu.max".to_vec(), b"5000 7000".to_vec());
+        self.plan(sketch, Call::WriteSetting { user: 0, group, file, line });
         self.control(sketch, group, ALL);
         self.plan(sketch, Call::HandOver { user: 0, group, owner });
     }
@@ -116,6 +120,7 @@ fn calls_on(group: u64, process: u64, live: u64) -> Vec<Call> {
         Call::WriteSetting { user, group, file: line("memory.max"), line: line("x") },
         Call::WriteSetting { user, group, file: line("pids.max"), line: vec![b'0'; 129] },
         Call::WriteSetting { user, group, file: line("memory"), line: line("1") },
+        Call::Read { group, file: line("memory"), room: 0 },
         Call::Release { group, pages: 1 },
         Call::Release { group, pages: 0 },
         Call::Release { group, pages: 1_048_577 },

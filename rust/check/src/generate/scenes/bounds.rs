@@ -3,6 +3,7 @@
 
 use super::super::Generator;
 use super::super::arguments::SETTINGS;
+use super::stage::has_set;
 use crate::call::Call;
 use crate::model::Model;
 
@@ -43,10 +44,8 @@ impl Generator {
 
     /// A group with all controllers on and no set, so that a line alone decides.
     pub(super) fn open_group(&mut self, sketch: &mut Model) -> Option<u64> {
-        let is_open = |&group: &u64| {
-            (0..3).all(|k| sketch.is_on(k, group))
-                && sketch.group(group).is_some_and(|kept| !kept.set.contains(&true))
-        };
+        let is_open =
+            |&group: &u64| (0..3).all(|k| sketch.is_on(k, group)) && !has_set(sketch, group);
         let open = self.random.one_of(sketch.live_groups().filter(is_open));
         open.or_else(|| {
             let group = self.child(sketch, 0, 0)?;
@@ -86,7 +85,8 @@ fn setting_lines(file: &[u8]) -> Vec<String> {
         lines.push(line.into());
     }
     lines.push(format!("{low} {low} {low}"));
-    lines.push("max 1000 1000".into());
+    lines.extend(["max 1000 1000", "x 1", "x 1000"].map(String::from));
+    lines.extend(["x", "5:"].map(|word| format!("{} {word}", high + 1)));
     if file == b"memory.max" {
         let bytes = ["4095", "4096", "4097", "8191", "68719476735", "68719476737"];
         lines.extend(bytes.map(String::from));
@@ -99,6 +99,9 @@ fn setting_lines(file: &[u8]) -> Vec<String> {
             lines.push(format!("2000 {period}"));
             lines.push(format!("max 0{period}\n"));
             lines.push(format!("999 {period}"));
+        }
+        for word in ["x", "max", "5:", "-1"] {
+            lines.extend(["999", "1000", "max"].map(|quota| format!("{quota} {word}")));
         }
     }
     lines

@@ -7,9 +7,9 @@ use crate::model::{CONTROLLERS, Model};
 const ALL: &str = "+cpu +memory +pids";
 
 impl Generator {
-    /// Ten children and more, with settings of every controller, of one of them a child with
-    /// settings too. A controller leaves, and joins again so that what is left of its settings
-    /// shows; then another.
+    /// Ten children and more with settings, and settings of another controller for a few of them
+    /// and for a grandchild. A controller leaves, and joins again so that what is left of its
+    /// settings shows; then the other, which a child's set keeps at first.
     pub(super) fn family(&mut self, sketch: &mut Model) {
         let above = if self.random.percent(50) { 0 } else { self.live_group(sketch) };
         let Some(parent) = self.child(sketch, 0, above) else { return };
@@ -21,9 +21,8 @@ impl Generator {
         }
         let leaving = self.random.pick(&CONTROLLERS);
         let other = self.random.pick(&CONTROLLERS);
-        if let Some(&eldest) = children.first()
-            && other != leaving
-        {
+        let Some(&eldest) = children.first() else { return };
+        if other != leaving {
             self.control(sketch, eldest, &format!("+{other}"));
             if let Some(grandchild) = self.child(sketch, 0, eldest) {
                 self.endow(sketch, grandchild, other);
@@ -37,7 +36,9 @@ impl Generator {
         }
         self.control(sketch, parent, &format!("-{leaving}"));
         self.control(sketch, parent, &format!("+{leaving}"));
-        self.control(sketch, parent, &format!("-{other} +{leaving}"));
+        self.control(sketch, parent, &format!("-{other}"));
+        self.control(sketch, eldest, &format!("-{other}"));
+        self.control(sketch, parent, &format!("-{other}"));
         self.control(sketch, parent, ALL);
     }
 

@@ -3,6 +3,7 @@
 
 use super::super::Generator;
 use super::super::arguments::{ODD_FILES, SETTINGS};
+use super::stage::{has_set, stacked};
 use crate::call::Call;
 use crate::compare::FILES;
 use crate::model::{CONTROLLERS, Model};
@@ -62,7 +63,10 @@ impl Generator {
     pub(super) fn cross_control(&mut self, sketch: &mut Model) {
         self.furnish(sketch);
         for _ in 0..CALLS {
-            let group = self.any_group(sketch);
+            let group = match self.random.one_of(stacked(sketch)) {
+                Some(group) if self.random.percent(30) => group,
+                _ => self.any_group(sketch),
+            };
             let user = self.any_user(sketch, group);
             let line = self.any_control_line(sketch, group);
             self.plan(sketch, Call::WriteSubtreeControl { user, group, line });
@@ -137,18 +141,15 @@ impl Generator {
 impl Generator {
     pub(super) fn any_group(&mut self, sketch: &Model) -> u64 {
         let below_root = sketch.live_groups().filter(|&group| group != 0);
-        let of_kind = match self.random.below(9) {
+        let of_kind = match self.random.below(10) {
             0 => Some(self.random.pick(&[64, 65, 127, 128, 256, 1 << 32, 1 << 63, u64::MAX])),
             1 => self.free_group(sketch),
             2 => Some(0),
             3 => self.random.one_of(below_root.filter(|&group| sketch.depth(group) == 8)),
-            4 | 5 => {
-                let has_set =
-                    |&group: &u64| sketch.group(group).is_some_and(|g| g.set.contains(&true));
-                self.random.one_of(below_root.filter(has_set))
-            }
-            6 => self.random.one_of(below_root.filter(|&g| sketch.holds(g).next().is_some())),
-            7 => self.random.one_of(below_root.filter(|&g| sketch.children(g).next().is_some())),
+            4 => self.random.one_of(below_root.filter(|&group| has_set(sketch, group))),
+            5 => self.random.one_of(stacked(sketch)),
+            6 | 7 => self.random.one_of(below_root.filter(|&g| sketch.holds(g).next().is_some())),
+            8 => self.random.one_of(below_root.filter(|&g| sketch.children(g).next().is_some())),
             _ => None,
         };
         of_kind.unwrap_or_else(|| self.live_group(sketch))

@@ -13,17 +13,21 @@ const NEIGHBOURS: [u8; 20] = [
 ];
 
 impl Generator {
-    /// Some numbers with such a byte in the place of a digit or beside it, and "max" by one letter.
+    /// Numbers with such a byte in the place of a digit or beside it, and "max" by one letter.
     pub(super) fn odd_numbers(&mut self, sketch: &mut Model) {
         let Some(group) = self.open_group(sketch) else { return };
         let Some(process) = self.free_process(sketch) else { return };
         self.plan(sketch, Call::Admit { process, user: 0 });
-        for byte in self.rows(&NEIGHBOURS) {
-            let file = self.random.pick(&SETTINGS);
-            let line = self.number_with(b"2345", byte);
-            self.plan(sketch, Call::WriteSetting { user: 0, group, file: file.to_vec(), line });
-            let line = self.number_with(process.to_string().as_bytes(), byte);
-            self.plan(sketch, Call::WriteProcs { user: 0, group, line });
+        for (place, byte) in (self.round()..).zip(NEIGHBOURS) {
+            let call = if place % 2 == 0 {
+                let line = self.number_with(process.to_string().as_bytes(), byte);
+                Call::WriteProcs { user: 0, group, line }
+            } else {
+                let file = self.random.pick(&SETTINGS).to_vec();
+                let line = self.number_with(b"2345", byte);
+                Call::WriteSetting { user: 0, group, file, line }
+            };
+            self.plan(sketch, call);
         }
         for _ in 0..6 {
             let file = self.random.pick(&SETTINGS);
@@ -32,11 +36,11 @@ impl Generator {
         }
     }
 
-    /// Some control words wrong by one byte, alone or among good ones, asked about and written.
+    /// Control words wrong by one byte, alone or among good ones, asked about and written.
     pub(super) fn odd_controls(&mut self, sketch: &mut Model) {
-        for byte in self.rows(&NEIGHBOURS) {
+        for (place, byte) in (self.round()..).zip(NEIGHBOURS) {
             let name = self.random.pick(&CONTROLLERS);
-            let word = match self.random.below(3) {
+            let word = match place % 3 {
                 0 => [&[byte], name.as_bytes()].concat(),
                 1 => {
                     let word = format!("+{name}");

@@ -50,42 +50,48 @@ impl Generator {
         self.plan(sketch, Call::HandOver { user: 0, group: parent, owner: user });
         self.migrate(sketch, user, process, below[0]);
     }
-    /// Two branches of groups from one, their owners of two users and user 0 in any order; a process
-    /// of each user; moves all over them, by any of the three, while groups are handed over.
+    /// Groups at three levels, most of them one user's, the others another's or user 0's; a process
+    /// of each user; moves all over the groups, while some are handed over. Then a group and a
+    /// process of users whose numbers differ in one bit.
     pub(super) fn lineage(&mut self, sketch: &mut Model) {
-        let users = [0, self.random.pick(&self.taste.users), u32::MAX, u32::MAX - 1];
-        let above = self.live_group(sketch);
-        let mut groups = vec![];
-        for parent in [None, Some(0), Some(1), Some(0), Some(3)] {
-            let parent = parent.map_or(above, |place: usize| groups[place]);
-            let Some(group) = self.child(sketch, 0, parent) else { return };
+        let user = self.random.pick(&self.taste.users);
+        let other = self.random.pick(&[user.wrapping_add(1), u32::MAX, u32::MAX - 1]);
+        let owners = [user, user, other, 0];
+        let mut groups = vec![self.live_group(sketch)];
+        for place in [0, 1, 2, 2, 1, 5, 5] {
+            let Some(group) = self.child(sketch, 0, groups[place]) else { return };
             if sketch.group(group).is_none() {
                 return;
             }
-            let owner = self.random.pick(&users);
+            let owner = self.random.pick(&owners);
             self.plan(sketch, Call::HandOver { user: 0, group, owner });
             groups.push(group);
         }
         let mut processes = vec![];
-        for user in &users[1..3] {
+        for user in [user, user, other] {
             let group = self.random.pick(&groups);
-            processes.extend(self.settler(sketch, *user, group));
-        }
-        if processes.is_empty() {
-            return;
+            processes.extend(self.settler(sketch, user, group));
         }
         for _ in 0..12 {
-            let process = self.random.pick(&processes);
+            let Some(process) = self.random.one_of(processes.iter().copied()) else { return };
             let group = self.random.pick(&groups);
-            let user = match sketch.process(process) {
-                Some(kept) if self.random.percent(70) => kept.user,
-                _ => self.random.pick(&users),
+            let mover = match sketch.process(process) {
+                Some(kept) if self.random.percent(80) => kept.user,
+                _ => self.random.pick(&owners),
             };
-            self.migrate(sketch, user, process, group);
+            self.migrate(sketch, mover, process, group);
             if self.random.percent(25) {
-                let (group, owner) = (self.random.pick(&groups), self.random.pick(&users));
+                let (group, owner) = (self.random.pick(&groups), self.random.pick(&owners));
                 self.plan(sketch, Call::HandOver { user: 0, group, owner });
             }
+        }
+        let group = self.random.pick(&groups[1..]);
+        self.migrate(sketch, 0, processes[0], group);
+        for place in [0, 1] {
+            let alias = user ^ (1 << ((2 * self.round() + place) % 32));
+            self.plan(sketch, Call::HandOver { user: 0, group, owner: alias });
+            self.migrate(sketch, alias, processes[0], group);
+            self.migrate(sketch, user, processes[0], group);
         }
     }
 }

@@ -53,10 +53,14 @@ impl Generator {
 
     /// The largest releases while they last, or a few; then what is left, and one page more.
     fn disperse(&mut self, sketch: &mut Model, group: u64) {
-        for _ in 0..self.random.pick(&[2, 8]) {
+        let own = |sketch: &Model| sketch.group(group).map_or(0, |kept| kept.own_pages);
+        for _ in 0..self.random.pick(&[2, 8, 24]) {
+            if own(sketch) < MOST {
+                break;
+            }
             self.plan(sketch, Call::Release { group, pages: MOST });
         }
-        let own = sketch.group(group).map_or(0, |kept| kept.own_pages);
+        let own = own(sketch);
         for pages in [own + 1, own, 1] {
             self.plan(sketch, Call::Release { group, pages });
         }

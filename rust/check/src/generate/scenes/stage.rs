@@ -10,7 +10,7 @@ impl Generator {
     /// process, which finds no room above for a page or a process.
     pub(super) fn furnish(&mut self, sketch: &mut Model) {
         self.deepen(sketch);
-        if is_stacked(sketch) && is_crowded(sketch) {
+        if stacked(sketch).next().is_some() && is_crowded(sketch) {
             return;
         }
         let owner = self.random.pick(&self.taste.users);
@@ -44,11 +44,15 @@ impl Generator {
     }
 }
 
-/// Whether some group below the root has a set, and a child of it too.
-fn is_stacked(sketch: &Model) -> bool {
-    let has_set =
-        |group: u64| group != 0 && sketch.group(group).is_some_and(|kept| kept.set.contains(&true));
-    sketch.live_groups().any(|group| has_set(group) && sketch.children(group).any(has_set))
+/// Whether a group has a set.
+pub(super) fn has_set(sketch: &Model, group: u64) -> bool {
+    sketch.group(group).is_some_and(|kept| kept.set.contains(&true))
+}
+
+/// The groups below the root of which a child has a set.
+pub(super) fn stacked(sketch: &Model) -> impl Iterator<Item = u64> {
+    let above = |&group: &u64| sketch.children(group).any(|child| has_set(sketch, child));
+    sketch.live_groups().filter(|&group| group != 0).filter(above)
 }
 
 /// Whether some process may not fork for want of room.
