@@ -17,9 +17,8 @@ use crate::shrink::shrink;
 /// kinds of what files do show are counted too.
 const PROBE_EVERY: usize = 16;
 
-/// How long to look for a shorter list. That a fault is found matters more than how shortly.
+/// How long to look for a shorter list.
 const PATIENCE: Duration = Duration::from_secs(30);
-const PATIENCE_WITH_FAULT: Duration = Duration::from_secs(1);
 
 /// A list of calls that ends where something differs.
 pub struct Found {
@@ -94,8 +93,12 @@ fn follow<H: Calls>(
 impl Found {
     /// The shortest list that still shows a difference, not always the same one.
     pub fn shortest<H: Calls>(self, fault: Option<Fault>) -> Found {
+        self.shortest_within::<H>(PATIENCE, fault)
+    }
+
+    /// The same for those who cannot wait.
+    pub fn shortest_within<H: Calls>(self, patience: Duration, fault: Option<Fault>) -> Found {
         let Found { name, machine, calls, difference } = self;
-        let patience = if fault.is_some() { PATIENCE_WITH_FAULT } else { PATIENCE };
         let fails = |calls: &[Call]| replay::<H>(machine, calls, fault).map(|(place, _)| place + 1);
         let calls = shrink(calls, patience, fails);
         let difference = match replay::<H>(machine, &calls, fault) {

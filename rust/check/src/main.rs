@@ -4,7 +4,7 @@
 
 use std::env;
 use std::process::ExitCode;
-use std::time::Instant;
+use std::time::{Duration, Instant};
 
 use shootspiral_check::Linked;
 use shootspiral_check::explore::{Counts, Found, search};
@@ -23,6 +23,9 @@ shootspiral-check [SEEDS [CALLS [FIRST]]] [OPTION...]
   --fault N   put fault N around the model, which the comparison then finds
   --faults    find every fault, one after the other
   --help      this text, and the faults";
+
+/// That a fault is found matters more than how shortly.
+const PATIENCE: Duration = Duration::from_millis(300);
 
 /// What the command line asks for. Faults are counted from 1.
 struct Task {
@@ -134,7 +137,10 @@ fn find(task: &Task) -> bool {
 fn report(found: Found, fault: Option<Fault>, calls: u64) {
     println!("{} differs after {} of its calls", found.name, found.calls.len());
     println!("({calls} calls in all)");
-    let found = found.shortest::<Linked>(fault);
+    let found = match fault {
+        Some(_) => found.shortest_within::<Linked>(PATIENCE, fault),
+        None => found.shortest::<Linked>(fault),
+    };
     println!("shortest list found, {} calls:\n\n{}", found.calls.len(), found.as_test());
     println!("at the last call, {}\n", found.difference);
 }

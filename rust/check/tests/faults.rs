@@ -1,29 +1,31 @@
 //! The comparison finds every fault that can be put around the model, and none where there is none;
 //! and its lists of calls come to every row of the tables.
 
-use shootspiral_check::explore::{Counts, explore};
+use shootspiral_check::explore::{Counts, Found, search};
 use shootspiral_check::fault::Fault;
 use shootspiral_check::model::Model;
 use shootspiral_check::{Call, Calls, Linked, checks};
 
-const SEEDS: std::ops::RangeInclusive<u64> = 1..=100;
+const SEEDS: std::ops::Range<u64> = 1..101;
 const CALLS: usize = 300;
+
+fn find(fault: Fault) -> Found {
+    let found = search::<Linked>(SEEDS, CALLS, Some(fault), &mut Counts::new());
+    found.unwrap_or_else(|| panic!("not found: {fault}"))
+}
 
 #[test]
 fn every_fault_is_found() {
     for &fault in Fault::ALL {
-        let find = |seed| explore::<Linked>(seed, CALLS, Some(fault), &mut Counts::new());
-        let found = SEEDS.into_iter().find_map(find);
-        assert!(found.is_some(), "not found: {fault}");
+        find(fault);
     }
 }
 
+/// Faults that a handful of calls shows are shown by no more.
 #[test]
-fn a_short_list_is_found() {
+fn short_lists_are_found() {
     for &fault in &Fault::ALL[..20] {
-        let find = |seed| explore::<Linked>(seed, CALLS, Some(fault), &mut Counts::new());
-        let found = SEEDS.into_iter().find_map(find).expect("found");
-        let shortest = found.shortest::<Linked>(Some(fault));
+        let shortest = find(fault).shortest::<Linked>(Some(fault));
         assert!(shortest.calls.len() <= 12, "{fault}: {}", shortest.as_test());
     }
 }
@@ -31,10 +33,8 @@ fn a_short_list_is_found() {
 #[test]
 fn every_row_is_reached() {
     let mut counts = Counts::new();
-    for seed in SEEDS {
-        if let Some(found) = explore::<Linked>(seed, CALLS, None, &mut counts) {
-            panic!("{}\n{}", found.as_test(), found.difference);
-        }
+    if let Some(found) = search::<Linked>(SEEDS, CALLS, None, &mut counts) {
+        panic!("{}\n{}", found.as_test(), found.difference);
     }
     assert_eq!(counts.missing(), [""; 0]);
 }
