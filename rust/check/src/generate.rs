@@ -35,7 +35,7 @@ impl Generator {
     pub fn new(seed: u64) -> Generator {
         let mut random = Random::new(seed);
         let taste = Taste::of(&mut random);
-        let turn = seed.wrapping_mul(TURNS);
+        let turn = seed % (1 << 32) * TURNS;
         Generator { random, taste, plan: VecDeque::new(), turn, fresh: Some(seed) }
     }
 

@@ -19,6 +19,9 @@ mod questions;
 mod stage;
 mod trees;
 
+/// The line that wants every controller.
+const ALL: &str = "+cpu +memory +pids";
+
 type Scene = fn(&mut Generator, &mut Model);
 
 /// Scenes that come by dice.
@@ -65,8 +68,7 @@ impl Generator {
         if seed % 20 == 19 {
             self.full_house(&mut sketch);
         } else if self.random.percent(80) {
-            let words =
-                self.random.pick(&["+cpu +memory +pids", "+memory +pids", "+memory", "+pids"]);
+            let words = self.random.pick(&[ALL, "+memory +pids", "+memory", "+pids"]);
             self.control(&mut sketch, 0, words);
         }
     }

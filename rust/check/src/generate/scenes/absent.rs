@@ -2,15 +2,15 @@
 
 use super::super::Generator;
 use super::super::arguments::SETTINGS;
+use super::ALL;
 use crate::call::Call;
 use crate::compare::FILES;
 use crate::model::Model;
 
-const ALL: &str = "+cpu +memory +pids";
-
 impl Generator {
     /// A group that had everything and is removed; every call on its number, on one that never was
-    /// live or on one above 63; then it is made again under another parent, by another user, where all its settings show.
+    /// live or on one above 63; then it is made again under another parent, by another user, where
+    /// all its settings show.
     pub(super) fn afterlife(&mut self, sketch: &mut Model) {
         let above = self.live_group(sketch);
         let Some(group) = self.child(sketch, 0, above) else { return };

@@ -3,6 +3,7 @@
 
 use super::super::Generator;
 use super::super::arguments::SETTINGS;
+use super::ALL;
 use super::stage::has_set;
 use crate::call::Call;
 use crate::model::Model;
@@ -49,7 +50,7 @@ impl Generator {
         let open = self.random.one_of(sketch.live_groups().filter(is_open));
         open.or_else(|| {
             let group = self.child(sketch, 0, 0)?;
-            self.reach(sketch, group, "+cpu +memory +pids");
+            self.reach(sketch, group, ALL);
             Some(group)
         })
     }

@@ -1,10 +1,9 @@
 //! Many children with settings when a controller leaves.
 
 use super::super::Generator;
+use super::ALL;
 use crate::call::Call;
 use crate::model::{CONTROLLERS, Model};
-
-const ALL: &str = "+cpu +memory +pids";
 
 impl Generator {
     /// Ten children and more with settings, and settings of another controller for a few of them

@@ -1,6 +1,7 @@
 //! Controllers that join and leave.
 
 use super::super::Generator;
+use super::ALL;
 use crate::call::Call;
 use crate::model::{CONTROLLERS, CPU, Model};
 
@@ -9,7 +10,7 @@ impl Generator {
     pub(super) fn toggle(&mut self, sketch: &mut Model) {
         let Some(group) = self.live_below_root(sketch) else { return };
         let parent = sketch.group(group).map_or(0, |kept| kept.parent);
-        self.reach(sketch, group, "+cpu +memory +pids");
+        self.reach(sketch, group, ALL);
         self.set(sketch, group, "memory.max", 12_288);
         self.set(sketch, group, "pids.max", 3);
         self.set(sketch, group, "cpu.weight", 7);
@@ -27,7 +28,7 @@ impl Generator {
             2 => self.control(sketch, parent, "-cpu -memory -pids"),
             _ => self.control(sketch, parent, &format!("-{name}")),
         }
-        self.control(sketch, parent, "+cpu +memory +pids");
+        self.control(sketch, parent, ALL);
     }
 
     /// A process into a group with a set, and a set in a group with a process.

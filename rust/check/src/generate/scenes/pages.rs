@@ -20,13 +20,13 @@ impl Generator {
             self.lift(sketch, up);
         }
         for _ in 0..self.random.pick(&[5, 18, 18, 34]) {
-            let room = sketch.machine() - sketch.usage(0);
+            let room = sketch.machine().saturating_sub(sketch.usage(0));
             if room < MOST {
                 break;
             }
             self.plan(sketch, Call::Charge { process, pages: MOST });
         }
-        let room = sketch.machine() - sketch.usage(0);
+        let room = sketch.machine().saturating_sub(sketch.usage(0));
         if room < MOST {
             for pages in [room + 1, room, 1] {
                 self.plan(sketch, Call::Charge { process, pages });

@@ -20,7 +20,8 @@ impl Generator {
         let user = self.user();
         let parents: Vec<u64> =
             rooms.iter().filter_map(|&room| self.settler(sketch, user, room)).collect();
-        while let Some(process) = self.free_process(sketch) {
+        for _ in 0..256 {
+            let Some(process) = self.free_process(sketch) else { break };
             let parent = self.random.pick(&parents);
             self.plan(sketch, Call::Fork { parent, process });
             if sketch.process(process).is_none() {

@@ -1,4 +1,4 @@
-//! Questions.
+//! Questions: texts that just fill their buffers or do not, and long control lines.
 
 use super::super::Generator;
 use crate::call::Call;
@@ -20,6 +20,7 @@ impl Generator {
             self.plan(sketch, question);
         }
     }
+
     /// Control lines of thousands of bytes: good words and spaces, or one word; then a wrong word
     /// anywhere, at the end too, or none; with a newline or without.
     pub(super) fn long_lines(&mut self, sketch: &mut Model) {

@@ -1,6 +1,7 @@
 //! What the checks of the calls need to fail at: furniture of the tree that stays.
 
 use super::super::Generator;
+use super::ALL;
 use crate::call::Call;
 use crate::model::{Model, PIDS};
 
@@ -15,7 +16,7 @@ impl Generator {
         }
         let owner = self.random.pick(&self.taste.users);
         let Some(top) = self.child(sketch, 0, 0) else { return };
-        self.reach(sketch, top, "+cpu +memory +pids");
+        self.reach(sketch, top, ALL);
         self.plan(sketch, Call::HandOver { user: 0, group: top, owner });
         let name = self.random.pick(&["+cpu", "+memory", "+pids"]);
         let mut group = top;
@@ -39,6 +40,9 @@ impl Generator {
         let mut bottom = deepest.unwrap_or(0);
         while sketch.depth(bottom) < 8 {
             let Some(child) = self.child(sketch, 0, bottom) else { return };
+            if sketch.group(child).is_none() {
+                return;
+            }
             bottom = child;
         }
     }
