@@ -10,7 +10,7 @@ impl Generator {
     /// and for a grandchild. A controller leaves, and joins again so that what is left of its
     /// settings shows; then the other, which a child's set keeps at first.
     pub(super) fn family(&mut self, sketch: &mut Model) {
-        let above = if self.random.percent(50) { 0 } else { self.live_group(sketch) };
+        let above = if self.random.percent(70) { 0 } else { self.live_group(sketch) };
         let Some(parent) = self.child(sketch, 0, above) else { return };
         self.reach(sketch, parent, ALL);
         self.control(sketch, parent, ALL);
@@ -18,7 +18,7 @@ impl Generator {
         for _ in 0..self.random.within(10, 14) {
             children.extend(self.child(sketch, 0, parent));
         }
-        let leaving = self.random.pick(&CONTROLLERS);
+        let leaving = CONTROLLERS[self.round() % 3];
         let other = self.random.pick(&CONTROLLERS);
         let Some(&eldest) = children.first() else { return };
         if other != leaving {

@@ -12,7 +12,7 @@ impl Generator {
         let Some(house) = self.child(sketch, 0, 0) else { return };
         self.control(sketch, 0, "+pids");
         let mut rooms = vec![house];
-        if self.random.percent(40) {
+        if self.random.percent(25) {
             rooms = (0..2).filter_map(|_| self.child(sketch, 0, house)).collect();
         }
         let limit = self.random.pick(&[254, 255, 255, 256, 257]);
