@@ -150,57 +150,109 @@ checks! {
     }
 }
 
-/// Checks of one call, with different numbers, that never hold together; and why.
-pub const NEVER: &[(&Check, &Check, &str)] = &[
-    (remove::NOT_LIVE, remove::ROOT_NOT_USER_0, "the root is live"),
-    (remove::MAY_NOT_WRITE_PARENT, remove::IS_ROOT, "the root has no parent"),
-    (hand_over::IS_ROOT, hand_over::NOT_LIVE, "the root is live"),
-    (write_procs::NO_WORD, write_procs::ABOVE_256, "no number"),
-    (write_procs::NO_WORD, write_procs::PROCESS_NOT_LIVE, "no number"),
-    (write_procs::NO_WORD, write_procs::MAY_NOT_WRITE_LOWEST, "no process"),
-    (write_procs::MORE_WORDS, write_procs::ABOVE_256, "no one number"),
-    (write_procs::MORE_WORDS, write_procs::PROCESS_NOT_LIVE, "no one number"),
-    (write_procs::MORE_WORDS, write_procs::MAY_NOT_WRITE_LOWEST, "no process"),
-    (write_procs::NOT_A_NUMBER, write_procs::ABOVE_256, "no number"),
-    (write_procs::NOT_A_NUMBER, write_procs::PROCESS_NOT_LIVE, "no number"),
-    (write_procs::NOT_A_NUMBER, write_procs::MAY_NOT_WRITE_LOWEST, "no process"),
-    (write_procs::IS_0, write_procs::ABOVE_256, "one number is not another"),
-    (write_procs::ABOVE_256, write_procs::MAY_NOT_WRITE_LOWEST, "no process"),
-    (write_procs::PROCESS_NOT_LIVE, write_procs::MAY_NOT_WRITE_LOWEST, "no process"),
-    (write_setting::NO_WORD, write_setting::RANGE, "no figure"),
-    (write_setting::NO_WORD, write_setting::PERIOD_RANGE, "no figure"),
-    (write_setting::MALFORMED, write_setting::RANGE, "no figure"),
-    (write_setting::PERIOD_MALFORMED, write_setting::PERIOD_RANGE, "no figure"),
-    (admit::IS_0, admit::IS_LIVE, "0 is never live"),
-    (admit::ABOVE_256, admit::IS_LIVE, "none above 256 is live"),
-    (fork::NEW_IS_0, fork::NEW_IS_LIVE, "0 is never live"),
-    (fork::NEW_ABOVE_256, fork::NEW_IS_LIVE, "none above 256 is live"),
-    (charge::NO_PAGES, charge::MACHINE_SIZE, "usage never passes the machine size"),
-    (read::ABOVE_63, read::EVENTS_ON_ROOT, "0 is not above 63"),
-    (read::NOT_LIVE, read::SHORT_BUFFER, "no text"),
-    (read::NO_SUCH_FILE, read::SHORT_BUFFER, "no text"),
-    (membership::OUTSIDE, membership::SHORT_BUFFER, "no text"),
-    (membership::NOT_LIVE, membership::SHORT_BUFFER, "no text"),
+/// Checks of one call that never hold together: any of the first with any of the second, and why.
+const NEVER: &[(&[&Check], &[&Check], &str)] = &[
+    (
+        &[make::PARENT_ABOVE_63, make::PARENT_NOT_LIVE],
+        &[make::PARENT_AT_DEPTH_8],
+        "what is not live has no depth",
+    ),
+    (&[make::NEW_ABOVE_63], &[make::NEW_IS_LIVE], "none above 63 is live"),
+    (
+        &[remove::ABOVE_63, remove::NOT_LIVE],
+        &[remove::ROOT_NOT_USER_0, remove::IS_ROOT],
+        "the root is live",
+    ),
+    (
+        &[remove::ABOVE_63, remove::NOT_LIVE],
+        &[remove::HAS_CHILD, remove::HAS_PROCESS],
+        "what is not live holds nothing",
+    ),
+    (&[remove::MAY_NOT_WRITE_PARENT], &[remove::IS_ROOT], "the root has no parent"),
+    (&[hand_over::IS_ROOT], &[hand_over::NOT_LIVE], "the root is live"),
+    (
+        &[write_procs::ABOVE_63, write_procs::NOT_LIVE],
+        &[write_procs::MAY_NOT_WRITE_LOWEST, write_procs::HAS_SET],
+        "what is not live has no chain and no set",
+    ),
+    (
+        &[write_procs::NO_WORD, write_procs::MORE_WORDS, write_procs::NOT_A_NUMBER],
+        &[write_procs::ABOVE_256, write_procs::PROCESS_NOT_LIVE],
+        "no number is named",
+    ),
+    (
+        &[write_procs::NO_WORD, write_procs::MORE_WORDS, write_procs::NOT_A_NUMBER],
+        &[write_procs::MAY_NOT_WRITE_LOWEST],
+        "no process is named",
+    ),
+    (
+        &[write_procs::IS_0, write_procs::ABOVE_256, write_procs::PROCESS_NOT_LIVE],
+        &[write_procs::MAY_NOT_WRITE_LOWEST],
+        "what is not live is in no group",
+    ),
+    (&[write_procs::IS_0], &[write_procs::ABOVE_256], "0 is not above 256"),
+    (
+        &[write_subtree_control::ABOVE_63, write_subtree_control::NOT_LIVE],
+        &[write_subtree_control::IN_CHILDS_SET, write_subtree_control::HOLDS_PROCESS],
+        "what is not live holds nothing",
+    ),
+    (
+        &[write_setting::NOT_A_SETTING],
+        &[
+            write_setting::MORE_WORDS,
+            write_setting::MALFORMED,
+            write_setting::PERIOD_MALFORMED,
+            write_setting::RANGE,
+            write_setting::PERIOD_RANGE,
+        ],
+        "only a setting has a form and a range",
+    ),
+    (
+        &[write_setting::NO_WORD],
+        &[write_setting::RANGE, write_setting::PERIOD_RANGE],
+        "no word, no figure",
+    ),
+    (&[write_setting::MALFORMED], &[write_setting::RANGE], "a malformed word is no figure"),
+    (
+        &[write_setting::PERIOD_MALFORMED],
+        &[write_setting::PERIOD_RANGE],
+        "a malformed word is no figure",
+    ),
+    (&[admit::IS_0, admit::ABOVE_256], &[admit::IS_LIVE], "none outside 1 to 256 is live"),
+    (
+        &[fork::PARENT_OUTSIDE, fork::PARENT_NOT_LIVE],
+        &[fork::PIDS_LIMIT],
+        "what is not live has no chain",
+    ),
+    (&[fork::NEW_IS_0, fork::NEW_ABOVE_256], &[fork::NEW_IS_LIVE], "none outside 1 to 256 is live"),
+    (
+        &[charge::OUTSIDE, charge::NOT_LIVE],
+        &[charge::MEMORY_LIMIT, charge::MACHINE_SIZE],
+        "what is not live has no chain",
+    ),
+    (&[charge::NO_PAGES], &[charge::MACHINE_SIZE], "usage never passes the machine size"),
+    (&[release::NO_PAGES], &[release::MORE_THAN_OWN], "0 is never more"),
+    (&[read::ABOVE_63], &[read::EVENTS_ON_ROOT], "0 is not above 63"),
+    (
+        &[read::ABOVE_63, read::NOT_LIVE, read::NO_SUCH_FILE],
+        &[read::SHORT_BUFFER],
+        "there is no text",
+    ),
+    (&[membership::OUTSIDE, membership::NOT_LIVE], &[membership::SHORT_BUFFER], "there is no text"),
 ];
 
-pub fn never(first: &Check, second: &Check) -> bool {
-    NEVER.iter().any(|(one, other, _)| (*one, *other) == (first, second))
+/// Why two checks never hold together, if they do not.
+pub fn never(first: &Check, second: &Check) -> Option<&'static str> {
+    let apart =
+        NEVER.iter().find(|(one, other, _)| one.contains(&first) && other.contains(&second));
+    apart.map(|(_, _, why)| *why)
 }
 
-/// Neighbouring checks whose order shows where both hold: a row, and those of the next number that
-/// can hold with it. Where none of them can, the number after that is its neighbour.
-pub fn pairs(checks: &[&'static Check]) -> Vec<(&'static Check, &'static Check)> {
-    let steps: Vec<&[&Check]> = checks.chunk_by(|one, other| one.number == other.number).collect();
-    let mut pairs = vec![];
-    for (place, step) in steps.iter().enumerate() {
-        for &first in *step {
-            let with = |later: &&[&'static Check]| -> Vec<_> {
-                let can = later.iter().filter(|second| !never(first, second));
-                can.map(|&second| (first, second)).collect()
-            };
-            let nearest = steps[place + 1..].iter().map(with).find(|found| !found.is_empty());
-            pairs.extend(nearest.into_iter().flatten());
-        }
-    }
-    pairs
+/// The checks of its call that come later, with another number, and can hold with it: where they do,
+/// the order shows.
+pub fn with(first: &Check) -> impl Iterator<Item = &'static Check> {
+    let of_call = TABLE.iter().filter(|(call, _)| *call == first.call);
+    let later = of_call.flat_map(|(_, checks)| *checks).skip_while(move |check| **check != first);
+    let other = later.copied().filter(|second| second.number != first.number);
+    other.filter(|second| never(first, second).is_none())
 }

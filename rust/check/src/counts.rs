@@ -1,11 +1,11 @@
-//! How often a run came to each answer of each call, to each pair of neighbouring checks that both
-//! hold, and to each kind of what is read; and which of them it never came to.
+//! How often a run came to each answer of each call, to each pair of checks that both hold, and to
+//! each kind of what is read; and which of them it never came to.
 
 use std::collections::BTreeMap;
 use std::fmt;
 
 use crate::call::Call;
-use crate::checks::{Check, TABLE, never, pairs};
+use crate::checks::{Check, TABLE, never, with};
 use crate::kinds::{self, KINDS, Kind};
 use crate::model::Model;
 
@@ -68,20 +68,19 @@ impl Counts {
         self.kinds.get(&(what, name)).copied().unwrap_or(0)
     }
 
-    /// The rows that the run never came to; and pairs that the table says never hold together, if
-    /// they did.
+    /// What the run never came to; and pairs of checks that never hold together, if they did.
     pub fn missing(&self) -> Vec<String> {
         let mut missing = vec![];
         for &(call, checks) in TABLE {
             if self.successes(call) == 0 {
                 missing.push(format!("{call}: success"));
             }
-            for check in checks.iter().filter(|check| self.refusals(check) == 0) {
-                missing.push(format!("{call}: {check}"));
-            }
-            for (first, second) in pairs(checks) {
-                if self.both(first, second) == 0 {
-                    missing.push(format!("{call}: {first}, and with it {second}"));
+            for check in checks {
+                if self.refusals(check) == 0 {
+                    missing.push(format!("{call}: {check}"));
+                }
+                for second in with(check).filter(|second| self.both(check, second) == 0) {
+                    missing.push(format!("{call}: {check}, and with it {second}"));
                 }
             }
         }
@@ -90,9 +89,11 @@ impl Counts {
                 missing.push(format!("{what}: {name}"));
             }
         }
-        for (first, second) in self.pairs.keys().filter(|(first, second)| never(first, second)) {
-            let call = first.call();
-            missing.push(format!("{call}: {first}, never with {second}, held with it"));
+        for (first, second) in self.pairs.keys() {
+            if let Some(why) = never(first, second) {
+                let call = first.call();
+                missing.push(format!("{call}: {first} held with {second}, yet {why}"));
+            }
         }
         missing
     }
@@ -104,23 +105,19 @@ impl fmt::Display for Check {
     }
 }
 
-/// A line for each check, with the neighbouring ones that held besides, and one for each thing that
-/// is read.
+/// A line for each check, with how many others can hold besides and the rarest of them; and one for
+/// each thing that is read.
 impl fmt::Display for Counts {
     fn fmt(&self, f: &mut fmt::Formatter<'_>) -> fmt::Result {
         for &(call, checks) in TABLE {
             writeln!(f, "{call}: {} succeeded", self.successes(call))?;
             for check in checks {
                 write!(f, "{:7}  {check}", self.refusals(check))?;
-                let pairs = pairs(checks).into_iter().filter(|(first, _)| first == check);
-                let pairs: Vec<String> = pairs
-                    .map(|(first, second)| format!("{} {second}", self.both(first, second)))
-                    .collect();
-                if pairs.is_empty() {
-                    writeln!(f)?;
-                } else {
-                    writeln!(f, "; with it {}", pairs.join(", "))?;
+                if let Some(rarest) = with(check).min_by_key(|second| self.both(check, second)) {
+                    let (all, times) = (with(check).count(), self.both(check, rarest));
+                    write!(f, "; {all} more can hold, least often {rarest}: {times}")?;
                 }
+                writeln!(f)?;
             }
         }
         for &(what, names) in KINDS {

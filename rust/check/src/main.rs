@@ -18,8 +18,8 @@ shootspiral-check [SEEDS [CALLS [FIRST]]] [OPTION...]
   FIRST   the seed of the first (1)
 
   --long      5000 seeds of 400 calls: two million calls
-  --reached   print how often the lists came to each check of each call, to each pair of
-              neighbouring checks and to each kind of what is read; fail where they never did
+  --reached   print how often the lists came to each check of each call, to pairs of checks
+              that both hold and to each kind of what is read; fail where they never did
   --fault N   put fault N around the model, which the comparison then finds
   --faults    find every fault, one after the other
   --help      this text, and the faults";
