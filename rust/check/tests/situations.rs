@@ -11,7 +11,7 @@ const SEEDS: std::ops::RangeInclusive<u64> = 1..=100;
 const CALLS: usize = 300;
 
 /// Each place, and how often a run must come to it.
-const PLACES: [(&str, u64); 42] = [
+const PLACES: [(&str, u64); 43] = [
     ("make under a group not live", 20),
     ("remove of a group not live", 20),
     ("hand_over of a group not live", 20),
@@ -31,9 +31,10 @@ const PLACES: [(&str, u64); 42] = [
     ("a charge above 2^24 pages", 50),
     ("a limit that stops a charge above 2^24 pages", 10),
     ("a release from more than 2^22 own pages", 20),
-    ("cpu leaves ten children with settings", 5),
+    ("a group with more than 2^22 pages removed", 2),
+    ("cpu leaves ten children with settings", 3),
     ("memory leaves ten children with settings", 3),
-    ("pids leaves ten children with settings", 5),
+    ("pids leaves ten children with settings", 3),
     ("two words to memory.max", 10),
     ("two words to pids.max", 10),
     ("two words to cpu.weight", 10),
@@ -100,6 +101,8 @@ fn places(model: &Model, call: &Call, number: u32, told: &[u64]) -> Vec<String> 
         Call::Remove { group, .. } => {
             let is_deep = number == 0 && model.depth(*group) >= 4;
             note(is_deep && own(*group) > 0, "a group with pages removed at depth 4 or below");
+            let is_rich = number == 0 && own(*group) > 1 << 22;
+            note(is_rich, "a group with more than 2^22 pages removed");
         }
         Call::Charge { .. } => {
             let many = 1 << 24;
