@@ -87,9 +87,12 @@ fn every_pair_of_checks_is_met() {
     assert!(rare.is_empty(), "{rare:#?}");
 }
 
+/// The checks of a call in the paper's order, and whether each fails.
+type Checks = Vec<(&'static str, bool)>;
+
 /// The checks that fail, each asked as if those before it had passed.
 fn failing(model: &Model, call: &Call) -> Vec<&'static str> {
-    let checks: Vec<(&'static str, bool)> = match call {
+    let checks: Checks = match call {
         Call::Make { user, parent, group } => vec![
             ("above 63", *parent > 63 || *group > 63),
             ("not live", is_absent(model, *parent)),
@@ -148,8 +151,6 @@ fn failing(model: &Model, call: &Call) -> Vec<&'static str> {
     };
     checks.into_iter().filter(|(_, fails)| *fails).map(|(name, _)| name).collect()
 }
-
-type Checks = Vec<(&'static str, bool)>;
 
 fn procs_checks(model: &Model, user: u32, group: u64, line: &[u8]) -> Checks {
     let number = match words(line)[..] {

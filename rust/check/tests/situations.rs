@@ -11,7 +11,7 @@ const SEEDS: std::ops::RangeInclusive<u64> = 1..=100;
 const CALLS: usize = 300;
 
 /// Each place, and how often a run must come to it.
-const PLACES: [(&str, u64); 42] = [
+const PLACES: [(&str, u64); 43] = [
     ("make under a group not live", 20),
     ("remove of a group not live", 20),
     ("hand_over of a group not live", 20),
@@ -31,9 +31,10 @@ const PLACES: [(&str, u64); 42] = [
     ("a charge above 2^24 pages", 50),
     ("a limit that stops a charge above 2^24 pages", 10),
     ("a release from more than 2^22 own pages", 20),
-    ("cpu leaves ten children with settings", 5),
+    ("a group with more than 2^22 pages removed", 2),
+    ("cpu leaves ten children with settings", 3),
     ("memory leaves ten children with settings", 3),
-    ("pids leaves ten children with settings", 5),
+    ("pids leaves ten children with settings", 3),
     ("two words to memory.max", 10),
     ("two words to pids.max", 10),
     ("two words to cpu.weight", 10),
@@ -53,7 +54,7 @@ const PLACES: [(&str, u64); 42] = [
     ("a long line with a bad word last", 5),
     ("a long line with a bad word within", 5),
     ("a long line of one word", 5),
-    ("a move between groups of which the common ancestor is another's", 20),
+    ("a move that the common ancestor's owner alone may make", 20),
 ];
 
 #[test]
@@ -78,96 +79,95 @@ fn every_place_is_come_to() {
         }
     }
     let count = |place: &str| counts.get(place).copied().unwrap_or(0);
-    let rare: Vec<_> = PLACES.iter().filter(|(place, often)| count(place) < *often).collect();
-    let rare: Vec<_> = rare.iter().map(|(place, _)| format!("{place}: {}", count(place))).collect();
+    let rare = PLACES.iter().filter(|(place, often)| count(place) < *often);
+    let rare: Vec<_> = rare.map(|(place, _)| format!("{place}: {}", count(place))).collect();
     assert!(rare.is_empty(), "{rare:#?}");
 }
 
 /// The places that a call comes to, by the model before it and by its answer.
 fn places(model: &Model, call: &Call, number: u32, told: &[u64]) -> Vec<String> {
     let mut places = absent(model, call);
+    let mut note = |is_there: bool, place: &str| {
+        if is_there {
+            places.push(place.into());
+        }
+    };
+    let own = |group: u64| model.group(group).map_or(0, |kept| kept.own_pages);
     match call {
-        Call::Make { .. } if number == 11 => places.push("a group not made under depth 8".into()),
-        Call::Make { parent, .. } if number == 0 && model.depth(*parent) == 7 => {
-            places.push("a group made under depth 7".into());
+        Call::Make { parent, .. } => {
+            note(number == 11, "a group not made under depth 8");
+            note(number == 0 && model.depth(*parent) == 7, "a group made under depth 7");
         }
-        Call::Remove { group, .. } if number == 0 => {
-            let own = model.group(*group).map_or(0, |kept| kept.own_pages);
-            if own > 0 && model.depth(*group) >= 4 {
-                places.push("a group with pages removed at depth 4 or below".into());
-            }
+        Call::Remove { group, .. } => {
+            let is_deep = number == 0 && model.depth(*group) >= 4;
+            note(is_deep && own(*group) > 0, "a group with pages removed at depth 4 or below");
+            let is_rich = number == 0 && own(*group) > 1 << 22;
+            note(is_rich, "a group with more than 2^22 pages removed");
         }
-        Call::Charge { .. } if model.usage(0) > 1 << 24 => match number {
-            0 => places.push("a charge above 2^24 pages".into()),
-            12 if told[0] != 0 && model.usage(told[0]) > 1 << 24 => {
-                places.push("a limit that stops a charge above 2^24 pages".into());
-            }
-            _ => {}
-        },
-        Call::Release { group, .. } if number == 0 => {
-            if model.group(*group).is_some_and(|kept| kept.own_pages > 1 << 22) {
-                places.push("a release from more than 2^22 own pages".into());
-            }
+        Call::Charge { .. } => {
+            let many = 1 << 24;
+            note(number == 0 && model.usage(0) > many, "a charge above 2^24 pages");
+            let stops = number == 12 && told[0] != 0 && model.usage(told[0]) > many;
+            note(stops, "a limit that stops a charge above 2^24 pages");
+        }
+        Call::Release { group, .. } => {
+            let is_large = number == 0 && own(*group) > 1 << 22;
+            note(is_large, "a release from more than 2^22 own pages");
         }
         Call::WriteSubtreeControl { group, line, .. } if number == 0 => {
-            places.extend(left_by(model, *group, line));
+            for name in left_by(model, *group, line) {
+                note(true, &format!("{name} leaves ten children with settings"));
+            }
         }
         Call::WriteSetting { file, line, .. } if number == 22 => {
             let words = line.split(|&byte| byte == b' ').filter(|word| !word.is_empty()).count();
             let file = String::from_utf8_lossy(file);
-            match words {
-                2 => places.push(format!("two words to {file}")),
-                3 => places.push(format!("three words to {file}")),
-                _ => {}
-            }
-            if line.iter().any(|byte| b"/:".contains(byte)) {
-                places.push(format!("{file} with / or :"));
-            }
+            note(words == 2, &format!("two words to {file}"));
+            note(words == 3, &format!("three words to {file}"));
+            note(is_beside_digits(line), &format!("{file} with / or :"));
         }
-        Call::WriteProcs { line, .. } if number == 22 => {
-            if line.iter().any(|byte| b"/:".contains(byte)) {
-                places.push("cgroup.procs with / or :".into());
-            }
-        }
-        Call::WriteProcs { user, group, .. } if number == 13 => {
-            if model.group(*group).is_some_and(|kept| kept.owner == *user) {
-                let place = "a move between groups of which the common ancestor is another's";
-                places.push(place.into());
-            }
+        Call::WriteProcs { user, group, line } => {
+            note(number == 22 && is_beside_digits(line), "cgroup.procs with / or :");
+            let is_owner = model.group(*group).is_some_and(|kept| kept.owner == *user);
+            let process = std::str::from_utf8(line).ok().and_then(|line| line.trim().parse().ok());
+            let moved = process.and_then(|process| model.process(process));
+            let is_own = is_owner && moved.is_some_and(|kept| kept.user == *user);
+            note(number == 13 && is_own, "a move that the common ancestor's owner alone may make");
         }
         Call::Fork { parent, .. } => {
             let group = model.process(*parent).map_or(0, |kept| kept.group);
             let limited =
-                |&up: &u64| model.group(up).is_some_and(|g| g.settings.pids_max.is_some());
+                |&up: &u64| model.group(up).is_some_and(|kept| kept.settings.pids_max.is_some());
             let inside = model.chain(group).into_iter().find(limited);
-            match (inside.map(|up| model.population(up)), number) {
-                (Some(254), 0) => places.push("a fork of the 255th process inside".into()),
-                (Some(255), 0) => places.push("a fork of the 256th process inside".into()),
-                (Some(255), 11) => places.push("a fork stopped at 255 processes".into()),
-                _ => {}
-            }
+            let inside = inside.map_or(0, |up| model.population(up));
+            note(number == 0 && inside == 254, "a fork of the 255th process inside");
+            note(number == 0 && inside == 255, "a fork of the 256th process inside");
+            note(number == 11 && inside == 255, "a fork stopped at 255 processes");
         }
-        Call::Read { room: 916, .. } if told[0] == 916 => {
-            places.push("every process in a buffer that they fill".into());
-        }
-        Call::Read { group, room: 915, .. }
-            if number == 28 && model.holds(*group).count() == 256 =>
-        {
-            places.push("every process in a buffer one byte short".into());
+        Call::Read { group, room, .. } => {
+            let all = model.holds(*group).count() == 256;
+            note(all && (*room, told[0]) == (916, 916), "every process in a buffer that they fill");
+            note(all && (*room, number) == (915, 28), "every process in a buffer one byte short");
         }
         Call::FirstBadWord { line } if line.len() > 2_000 => {
-            let (first, end) = (told[0], told[0] + told[1]);
-            places.push(match (first, line.len() as u64 - end) {
-                _ if told[1] == 0 => "a long line without a bad word".into(),
-                (0, 0 | 1) => "a long line of one word".into(),
-                (0, _) => "a long line with a bad word first".into(),
-                (_, 0 | 1) => "a long line with a bad word last".into(),
-                _ => "a long line with a bad word within".into(),
-            });
+            let after = line.len() as u64 - told[0] - told[1];
+            let place = match (told[0], told[1], after) {
+                (_, 0, _) => "a long line without a bad word",
+                (0, _, 0 | 1) => "a long line of one word",
+                (0, _, _) => "a long line with a bad word first",
+                (_, _, 0 | 1) => "a long line with a bad word last",
+                _ => "a long line with a bad word within",
+            };
+            note(true, place);
         }
         _ => {}
     }
     places
+}
+
+/// Whether the line has one of the two bytes beside the digits.
+fn is_beside_digits(line: &[u8]) -> bool {
+    line.iter().any(|byte| b"/:".contains(byte))
 }
 
 /// Numbers in range that are not live.
@@ -198,7 +198,7 @@ fn absent(model: &Model, call: &Call) -> Vec<String> {
 }
 
 /// The controllers that a line makes leave ten children and more with settings of theirs.
-fn left_by(model: &Model, group: u64, line: &[u8]) -> Vec<String> {
+fn left_by(model: &Model, group: u64, line: &[u8]) -> Vec<&'static str> {
     let children: Vec<_> = model.children(group).filter_map(|child| model.group(child)).collect();
     let is_set = |k: usize| {
         let with_settings = children.iter().filter(|child| match k {
@@ -213,5 +213,5 @@ fn left_by(model: &Model, group: u64, line: &[u8]) -> Vec<String> {
             && model.group(group).is_some_and(|kept| kept.set[k])
     };
     let left = [CPU, MEMORY, PIDS].into_iter().filter(|&k| leaves(k) && is_set(k));
-    left.map(|k| format!("{} leaves ten children with settings", CONTROLLERS[k])).collect()
+    left.map(|k| CONTROLLERS[k]).collect()
 }

@@ -45,8 +45,9 @@ impl Generator {
         for _ in 0..CALLS {
             let group = self.any_group(sketch);
             let process = self.any_process(sketch);
-            let user = match sketch.process(process) {
-                Some(kept) if self.random.percent(30) => kept.user,
+            let user = match (self.random.below(3), sketch.process(process), sketch.group(group)) {
+                (0, Some(kept), _) => kept.user,
+                (1, _, Some(kept)) => kept.owner,
                 _ => self.any_user(sketch, group),
             };
             let line = match self.random.below(8) {

@@ -9,10 +9,12 @@ const MOST: u64 = 1_048_576;
 
 impl Generator {
     /// The largest charges, many of them, up to the brim of the machine where that is near; then a
-    /// limit about there on some group of the chain, and below; then the largest releases.
+    /// limit about there on some group of the chain, and below; then the largest releases, from the
+    /// group or, where it could be removed, from its parent.
     pub(super) fn hoard(&mut self, sketch: &mut Model) {
         let below_root = |&process: &u64| sketch.process(process).is_some_and(|p| p.group != 0);
         let hoarder = self.random.one_of(sketch.live_processes().filter(below_root));
+        let hoarder = hoarder.filter(|_| self.random.percent(50));
         let Some(process) = hoarder.or_else(|| self.newcomer(sketch)) else { return };
         let group = sketch.process(process).map_or(0, |kept| kept.group);
         self.reach(sketch, group, "+memory");
@@ -48,7 +50,13 @@ impl Generator {
             }
             self.lift(sketch, up);
         }
-        self.disperse(sketch, group);
+        let parent = sketch.group(group).map_or(0, |kept| kept.parent);
+        if self.random.percent(60) {
+            self.migrate(sketch, 0, process, 0);
+            self.plan(sketch, Call::Remove { user: 0, group });
+        }
+        let heir = if sketch.group(group).is_some() { group } else { parent };
+        self.disperse(sketch, heir);
     }
 
     /// The largest releases while they last, or a few; then what is left, and one page more.
