@@ -2,6 +2,8 @@
 //! model names its refusals by these rows and can make no others. Causes that the paper joins with
 //! "or" are rows of their own where they can be told apart.
 
+use std::fmt;
+
 /// A row of the table: one cause for which a call is refused.
 #[derive(Debug, PartialEq, Eq, PartialOrd, Ord)]
 pub struct Check {
@@ -18,9 +20,11 @@ impl Check {
     pub fn number(&self) -> u32 {
         self.number
     }
+}
 
-    pub fn cause(&self) -> &'static str {
-        self.cause
+impl fmt::Display for Check {
+    fn fmt(&self, f: &mut fmt::Formatter<'_>) -> fmt::Result {
+        write!(f, "{} {}", self.number, self.cause)
     }
 }
 

@@ -99,12 +99,6 @@ impl Counts {
     }
 }
 
-impl fmt::Display for Check {
-    fn fmt(&self, f: &mut fmt::Formatter<'_>) -> fmt::Result {
-        write!(f, "{} {}", self.number(), self.cause())
-    }
-}
-
 /// A line for each check, with how many others can hold besides and the rarest of them; and one for
 /// each thing that is read.
 impl fmt::Display for Counts {

@@ -48,7 +48,7 @@ impl Model {
     }
 
     /// The parent of a live group; the root has none.
-    pub(crate) fn parent(&self, group: u64) -> Option<u64> {
+    pub(super) fn parent(&self, group: u64) -> Option<u64> {
         self.group(group).filter(|_| group != ROOT).map(|g| g.parent)
     }
 
