@@ -140,6 +140,8 @@ impl Generator {
 
 // Arguments.
 impl Generator {
+    /// Above 63, not live, the root, at depth 8, with a set, with a child that has one, with a
+    /// process, with a child, or any that is live.
     pub(super) fn any_group(&mut self, sketch: &Model) -> u64 {
         let below_root = sketch.live_groups().filter(|&group| group != 0);
         let of_kind = match self.random.below(10) {
@@ -156,6 +158,7 @@ impl Generator {
         of_kind.unwrap_or_else(|| self.live_group(sketch))
     }
 
+    /// Outside 1 to 256, not live, below the root, or any that is live.
     pub(super) fn any_process(&mut self, sketch: &Model) -> u64 {
         let place = |process: u64| sketch.process(process).map_or(0, |kept| kept.group);
         let of_kind = match self.random.below(7) {
