@@ -7,6 +7,7 @@ use crate::call::Call;
 use crate::calls::Calls;
 use crate::compare::{Difference, Pair, replay};
 pub use crate::counts::Counts;
+use crate::crossed;
 use crate::fault::Fault;
 use crate::generate::Generator;
 use crate::heap;
@@ -29,20 +30,31 @@ pub struct Found {
     pub difference: Box<Difference>,
 }
 
-/// Compares the lists of all seeds, then the one that no seed comes to. Answers the first list
-/// after which something differs.
+/// Compares the lists of all seeds, then those that have none. Answers the first list after which
+/// something differs.
 pub fn search<H: Calls>(
     mut seeds: Range<u64>,
     length: usize,
     fault: Option<Fault>,
     counts: &mut Counts,
 ) -> Option<Found> {
-    let found = seeds.find_map(|seed| explore::<H>(seed, length, fault, counts));
-    found.or_else(|| {
-        let mut calls = heap::calls().into_iter();
-        let pair = Pair::<H>::fresh(heap::MACHINE, fault);
-        follow("heap", pair, calls.len(), |_| calls.next().expect("so many"), counts)
-    })
+    seeds
+        .find_map(|seed| explore::<H>(seed, length, fault, counts))
+        .or_else(|| given::<H>("crossed", crossed::MACHINE, crossed::calls(), fault, counts))
+        .or_else(|| given::<H>("heap", heap::MACHINE, heap::calls(), fault, counts))
+}
+
+fn given<H: Calls>(
+    name: &str,
+    machine: u64,
+    calls: Vec<Call>,
+    fault: Option<Fault>,
+    counts: &mut Counts,
+) -> Option<Found> {
+    let pair = Pair::<H>::fresh(machine, fault);
+    let length = calls.len();
+    let mut calls = calls.into_iter();
+    follow(name, pair, length, |_| calls.next().expect("so many"), counts)
 }
 
 /// Makes up and compares a list of calls. Answers the list if something differs.

@@ -5,7 +5,8 @@
 //! - [`checks`]: the table of all checks, by which the model names its refusals
 //! - [`linked`]: the proved host, behind the C interface
 //! - [`calls`], [`call`]: what both answer, as a trait and as a value
-//! - [`generate`], [`heap`]: lists of calls from a seed, and one that no seed comes to
+//! - [`generate`]: lists of calls from a seed
+//! - [`crossed`], [`heap`]: two lists more, for pairs of checks and for many pages
 //! - [`compare`], [`explore`]: one list, and many
 //! - [`counts`], [`kinds`]: what the lists came to, and what they never did
 //! - [`shrink`]: a short list from a long one
@@ -16,6 +17,7 @@ pub mod calls;
 pub mod checks;
 pub mod compare;
 pub mod counts;
+pub mod crossed;
 pub mod explore;
 pub mod fault;
 pub mod generate;

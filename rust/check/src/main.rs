@@ -99,7 +99,7 @@ fn compare(task: &Task) -> bool {
     }
     let (calls, refused) = (counts.all(), counts.refused());
     let seconds = start.elapsed().as_secs_f64();
-    println!("{} seeds from {} and the heap", task.seeds, task.first);
+    println!("{} seeds from {}, the crossed list and the heap", task.seeds, task.first);
     println!("{calls} calls, {refused} refused");
     println!("all alike, {seconds:.1} s, {:.2} s for 100,000 calls", seconds * 1e5 / calls as f64);
     if !task.reached {
