@@ -6,7 +6,7 @@ use std::fmt;
 
 use crate::call::{Answer, Call};
 use crate::calls::Calls;
-use crate::fault::Fault;
+use crate::fault::{Fault, Faulty};
 use crate::model::Model;
 
 /// Every file that a group can have, and one that none has.
@@ -24,8 +24,10 @@ pub const FILES: [&[u8]; 11] = [
     b"cgroup.type",
 ];
 
-/// More than the longest reply, with bytes to spare after it; and the bytes after such a buffer.
+/// More than the longest list of processes, with bytes to spare after it; more than any other text;
+/// and the bytes after such a buffer.
 const ROOM: usize = 960;
+const SMALL_ROOM: usize = 48;
 const MARGIN: usize = 16;
 const FILL: u8 = 0xee;
 
@@ -45,10 +47,10 @@ pub enum Difference {
 /// The model and a host that were given the same calls.
 #[derive(Clone)]
 pub struct Pair<H> {
-    pub model: Model,
-    pub host: H,
-    /// Why the model refused the last call, in the paper's words.
-    pub cause: &'static str,
+    /// The machine size that both were given.
+    pub machine: u64,
+    expected: Faulty,
+    host: H,
     calls: u8,
     buffers: [Vec<u8>; 2],
 }
@@ -56,27 +58,28 @@ pub struct Pair<H> {
 impl<H: Calls> Pair<H> {
     pub fn fresh(machine: u64, fault: Option<Fault>) -> Pair<H> {
         Pair {
-            model: Model::with_fault(machine, fault),
+            machine,
+            expected: Faulty::fresh(machine, fault),
             host: H::fresh(machine),
-            cause: "",
             calls: 0,
             buffers: [vec![FILL; ROOM + MARGIN], vec![FILL; ROOM + MARGIN]],
         }
     }
 
-    /// Makes a call on both and compares all that can be read after it. Answers the number that
-    /// the model gave.
-    pub fn step(&mut self, call: &Call) -> Result<u32, Box<Difference>> {
-        let number = self.answer(call)?;
-        self.survey()?;
-        Ok(number)
+    pub fn model(&self) -> &Model {
+        &self.expected.model
+    }
+
+    /// Makes a call on both and compares all that can be read after it.
+    pub fn step(&mut self, call: &Call) -> Result<(), Box<Difference>> {
+        self.answer(call)?;
+        self.survey()
     }
 
     /// Makes a call on both and compares the answers only.
-    pub fn answer(&mut self, call: &Call) -> Result<u32, Box<Difference>> {
+    pub fn answer(&mut self, call: &Call) -> Result<(), Box<Difference>> {
         self.calls = self.calls.wrapping_add(1);
-        let expected = call.on(&mut self.model, self.calls);
-        self.cause = if expected.number == 0 { "" } else { self.model.cause() };
+        let expected = self.expected.answer(call, self.calls);
         let stays = expected.number != 0 || call.is_question();
         let before = stays.then(|| self.host.memory().to_vec());
         let found = call.on(&mut self.host, self.calls);
@@ -89,7 +92,7 @@ impl<H: Calls> Pair<H> {
         if before.is_some_and(|before| before != self.host.memory()) {
             return Err(Box::new(Difference::Changed));
         }
-        Ok(expected.number)
+        Ok(())
     }
 
     /// Reads every file of every group and every membership line, the numbers just outside the
@@ -97,12 +100,12 @@ impl<H: Calls> Pair<H> {
     fn survey(&mut self) -> Result<(), Box<Difference>> {
         for group in 0..=64 {
             for file in FILES {
+                let room = if file == b"cgroup.procs" { ROOM } else { SMALL_ROOM };
                 let read = |host: &dyn Reads, reply: &mut [u8], told: &mut [u64; 1]| {
                     host.read_file(group, file, reply, told)
                 };
-                if !self.alike(read) {
-                    let file = file.to_vec();
-                    return Err(self.later(Call::Read { group, file, room: ROOM }));
+                if !self.alike(room, read) {
+                    return Err(self.later(Call::Read { group, file: file.to_vec(), room }));
                 }
             }
         }
@@ -110,30 +113,35 @@ impl<H: Calls> Pair<H> {
             let read = |host: &dyn Reads, reply: &mut [u8], told: &mut [u64; 1]| {
                 host.membership_line(process, reply, told)
             };
-            if !self.alike(read) {
-                return Err(self.later(Call::Membership { process, room: ROOM }));
+            if !self.alike(SMALL_ROOM, read) {
+                return Err(self.later(Call::Membership { process, room: SMALL_ROOM }));
             }
         }
         Ok(())
     }
 
-    /// Whether both answer a reading alike, every byte of the buffers included.
-    fn alike(&mut self, read: impl Fn(&dyn Reads, &mut [u8], &mut [u64; 1]) -> u32) -> bool {
-        let [expected, found] = &mut self.buffers;
+    /// Whether both answer a reading alike, every byte of the buffers and of the margins after them
+    /// included. A byte changed further on is found with the next list of processes.
+    fn alike(
+        &mut self,
+        room: usize,
+        read: impl Fn(&dyn Reads, &mut [u8], &mut [u64; 1]) -> u32,
+    ) -> bool {
+        let [expected, found] = self.buffers.each_mut().map(|buffer| &mut buffer[..room + MARGIN]);
         let (mut expected_told, mut found_told) = ([u64::MAX], [u64::MAX]);
-        let expected_number = read(&self.model, &mut expected[..ROOM], &mut expected_told);
-        let found_number = read(&self.host, &mut found[..ROOM], &mut found_told);
+        let expected_number = read(&self.expected, &mut expected[..room], &mut expected_told);
+        let found_number = read(&self.host, &mut found[..room], &mut found_told);
         let alike =
             expected_number == found_number && expected_told == found_told && expected == found;
         // What the model wrote is filled again; a host that wrote more was not alike.
-        let written = (expected_told[0] as usize).min(ROOM - 1) + 1;
+        let written = (expected_told[0] as usize).min(room - 1) + 1;
         expected[..written].fill(FILL);
         found[..written].fill(FILL);
         alike
     }
 
     fn later(&mut self, question: Call) -> Box<Difference> {
-        let expected = question.on(&mut self.model, self.calls);
+        let expected = self.expected.answer(&question, self.calls);
         let found = question.on(&mut self.host, self.calls);
         Box::new(Difference::Later { question, expected, found })
     }
@@ -142,8 +150,9 @@ impl<H: Calls> Pair<H> {
     /// made on a copy.
     pub fn probes(&self) -> Vec<Call> {
         let mut probes = vec![];
-        for group in self.model.live_groups() {
-            let kept = self.model.group(group).expect("a live group");
+        let model = self.model();
+        for group in model.live_groups() {
+            let kept = model.group(group).expect("a live group");
             for user in [kept.owner, kept.owner.wrapping_add(1).max(1)] {
                 probes.push(Call::WriteSubtreeControl { user, group, line: vec![] });
             }
@@ -153,8 +162,8 @@ impl<H: Calls> Pair<H> {
                 }
             }
         }
-        for process in self.model.live_processes() {
-            let kept = self.model.process(process).expect("a live process");
+        for process in model.live_processes() {
+            let kept = model.process(process).expect("a live process");
             if kept.group != 0 {
                 let (user, group) = (kept.user, kept.group);
                 let line = process.to_string().into_bytes();
@@ -173,6 +182,16 @@ trait Reads {
 }
 
 impl<H: Calls> Reads for H {
+    fn read_file(&self, group: u64, file: &[u8], reply: &mut [u8], told: &mut [u64; 1]) -> u32 {
+        self.read(group, file, reply, told)
+    }
+
+    fn membership_line(&self, process: u64, reply: &mut [u8], told: &mut [u64; 1]) -> u32 {
+        self.membership(process, reply, told)
+    }
+}
+
+impl Reads for Faulty {
     fn read_file(&self, group: u64, file: &[u8], reply: &mut [u8], told: &mut [u64; 1]) -> u32 {
         self.read(group, file, reply, told)
     }

@@ -1,26 +1,60 @@
 //! Seeds, one after the other: a list of calls for each, compared as it is made up.
 
-use std::collections::BTreeMap;
+use std::ops::Range;
+use std::time::Duration;
 
 use crate::call::Call;
 use crate::calls::Calls;
 use crate::compare::{Difference, Pair, replay};
+pub use crate::counts::Counts;
+use crate::crossed;
 use crate::fault::Fault;
 use crate::generate::Generator;
+use crate::heap;
+use crate::model::Model;
 use crate::shrink::shrink;
 
-/// What no file shows is asked for after every so many calls, and at the end of a list.
+/// What no file shows is asked for after every so many calls, and at the end of a list; then the
+/// kinds of what files do show are counted too.
 const PROBE_EVERY: usize = 16;
 
-/// How often each call was answered with each number, for which of the paper's causes.
-pub type Counts = BTreeMap<(&'static str, u32, &'static str), u64>;
+/// How long to look for a shorter list.
+const PATIENCE: Duration = Duration::from_secs(30);
 
 /// A list of calls that ends where something differs.
 pub struct Found {
-    pub seed: u64,
+    /// The seed, or the name of a list that has none.
+    pub name: String,
     pub machine: u64,
     pub calls: Vec<Call>,
     pub difference: Box<Difference>,
+}
+
+/// Compares the lists of all seeds, then those that have none. Answers the first list after which
+/// something differs.
+pub fn search<H: Calls>(
+    mut seeds: Range<u64>,
+    length: usize,
+    fault: Option<Fault>,
+    counts: &mut Counts,
+) -> Option<Found> {
+    seeds
+        .find_map(|seed| explore::<H>(seed, length, fault, counts))
+        .or_else(|| given::<H>("crossed", crossed::MACHINE, crossed::calls(), fault, counts))
+        .or_else(|| given::<H>("heap", heap::MACHINE, heap::calls(), fault, counts))
+}
+
+fn given<H: Calls>(
+    name: &str,
+    machine: u64,
+    calls: Vec<Call>,
+    fault: Option<Fault>,
+    counts: &mut Counts,
+) -> Option<Found> {
+    let pair = Pair::<H>::fresh(machine, fault);
+    let length = calls.len();
+    let mut calls = calls.into_iter();
+    follow(name, pair, length, |_| calls.next().expect("so many"), counts)
 }
 
 /// Makes up and compares a list of calls. Answers the list if something differs.
@@ -31,25 +65,35 @@ pub fn explore<H: Calls>(
     counts: &mut Counts,
 ) -> Option<Found> {
     let mut generator = Generator::new(seed);
-    let machine = generator.machine();
-    let mut pair = Pair::<H>::fresh(machine, fault);
+    let pair = Pair::<H>::fresh(generator.machine(), fault);
+    follow(&format!("seed_{seed}"), pair, length, |model| generator.next(model), counts)
+}
+
+fn follow<H: Calls>(
+    name: &str,
+    mut pair: Pair<H>,
+    length: usize,
+    mut next: impl FnMut(&Model) -> Call,
+    counts: &mut Counts,
+) -> Option<Found> {
+    let machine = pair.machine;
     let mut calls = vec![];
+    let found = |calls, difference| Some(Found { name: name.into(), machine, calls, difference });
     for place in 1..=length {
-        let call = generator.next(&pair.model);
+        let call = next(pair.model());
         calls.push(call.clone());
-        match pair.step(&call) {
-            Ok(number) => {
-                *counts.entry((call.name(), number, pair.cause)).or_default() += 1;
-            }
-            Err(difference) => return Some(Found { seed, machine, calls, difference }),
+        counts.call(pair.model(), &call);
+        if let Err(difference) = pair.step(&call) {
+            return found(calls, difference);
         }
         if place % PROBE_EVERY == 0 || place == length {
+            counts.values(pair.model());
             let mut copy = pair.clone();
             let before = calls.len();
             for probe in copy.probes() {
                 calls.push(probe.clone());
                 if let Err(difference) = copy.answer(&probe) {
-                    return Some(Found { seed, machine, calls, difference });
+                    return found(calls, difference);
                 }
             }
             calls.truncate(before);
@@ -61,19 +105,24 @@ pub fn explore<H: Calls>(
 impl Found {
     /// The shortest list that still shows a difference, not always the same one.
     pub fn shortest<H: Calls>(self, fault: Option<Fault>) -> Found {
-        let Found { seed, machine, calls, difference } = self;
+        self.shortest_within::<H>(PATIENCE, fault)
+    }
+
+    /// The same for those who cannot wait.
+    pub fn shortest_within<H: Calls>(self, patience: Duration, fault: Option<Fault>) -> Found {
+        let Found { name, machine, calls, difference } = self;
         let fails = |calls: &[Call]| replay::<H>(machine, calls, fault).map(|(place, _)| place + 1);
-        let calls = shrink(calls, fails);
+        let calls = shrink(calls, patience, fails);
         let difference = match replay::<H>(machine, &calls, fault) {
             Some((_, difference)) => difference,
             None => difference,
         };
-        Found { seed, machine, calls, difference }
+        Found { name, machine, calls, difference }
     }
 
     /// The list as a test that can be pasted into `tests/lists.rs`.
     pub fn as_test(&self) -> String {
-        let mut text = format!("#[test]\nfn seed_{}() {{\n", self.seed);
+        let mut text = format!("#[test]\nfn {}() {{\n", self.name);
         text += &format!("    agree::<Linked>({}, &[\n", self.machine);
         for call in &self.calls {
             text += &format!("        {call},\n");

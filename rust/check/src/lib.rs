@@ -2,19 +2,27 @@
 //! call the same answer, the same reply buffer and the same readable tree.
 //!
 //! - [`model`]: the paper as a plain program, every figure worked out by its definition
+//! - [`checks`]: the table of all checks, by which the model names its refusals
 //! - [`linked`]: the proved host, behind the C interface
 //! - [`calls`], [`call`]: what both answer, as a trait and as a value
 //! - [`generate`]: lists of calls from a seed
+//! - [`crossed`], [`heap`]: two lists more, for pairs of checks and for many pages
 //! - [`compare`], [`explore`]: one list, and many
+//! - [`counts`], [`kinds`]: what the lists came to, and what they never did
 //! - [`shrink`]: a short list from a long one
-//! - [`fault`]: faults for the model, to show that the comparison finds them
+//! - [`fault`]: the model with one thing done otherwise, to show that the comparison finds it
 
 pub mod call;
 pub mod calls;
+pub mod checks;
 pub mod compare;
+pub mod counts;
+pub mod crossed;
 pub mod explore;
 pub mod fault;
 pub mod generate;
+pub mod heap;
+pub mod kinds;
 pub mod linked;
 pub mod model;
 mod random;

@@ -1,12 +1,13 @@
 //! Compares Shootspiral with the model over many seeds, and prints the shortest list of calls it
-//! can find if they differ. The exit status is 0 where all agree, 1 where something differs.
+//! can find if they differ. The exit status is 0 where all agree, 1 where something differs, a
+//! fault is not found, or a row of the tables was not reached.
 
 use std::env;
 use std::process::ExitCode;
-use std::time::Instant;
+use std::time::{Duration, Instant};
 
 use shootspiral_check::Linked;
-use shootspiral_check::explore::{Counts, Found, explore};
+use shootspiral_check::explore::{Counts, Found, search};
 use shootspiral_check::fault::Fault;
 
 const USAGE: &str = "\
@@ -17,18 +18,22 @@ shootspiral-check [SEEDS [CALLS [FIRST]]] [OPTION...]
   FIRST   the seed of the first (1)
 
   --long      5000 seeds of 400 calls: two million calls
-  --counts    print how often each call was answered with each number
-  --fault N   put fault N into the model, which the comparison then finds
+  --reached   print how often the lists came to each check of each call, to pairs of checks
+              that both hold and to each kind of what is read; fail where they never did
+  --fault N   put fault N around the model, which the comparison then finds
   --faults    find every fault, one after the other
   --help      this text, and the faults";
 
-/// What the command line asks for.
+/// That a fault is found matters more than how shortly.
+const PATIENCE: Duration = Duration::from_millis(300);
+
+/// What the command line asks for. Faults are counted from 1.
 struct Task {
     seeds: u64,
     calls: usize,
     first: u64,
-    counts: bool,
-    faults: Vec<Option<Fault>>,
+    reached: bool,
+    faults: Vec<usize>,
 }
 
 fn main() -> ExitCode {
@@ -40,27 +45,27 @@ fn main() -> ExitCode {
         }
         return ExitCode::SUCCESS;
     }
-    match parse(&words) {
-        Some(task) => run(&task),
-        None => {
-            eprintln!("{USAGE}");
-            ExitCode::from(2)
-        }
-    }
+    let Some(task) = parse(&words) else {
+        eprintln!("{USAGE}");
+        return ExitCode::from(2);
+    };
+    let passed = if task.faults.is_empty() { compare(&task) } else { find(&task) };
+    if passed { ExitCode::SUCCESS } else { ExitCode::from(1) }
 }
 
 fn parse(words: &[String]) -> Option<Task> {
-    let mut task = Task { seeds: 100, calls: 300, first: 1, counts: false, faults: vec![None] };
+    let mut task = Task { seeds: 100, calls: 300, first: 1, reached: false, faults: vec![] };
     let mut place = 0;
     let mut words = words.iter();
     while let Some(word) = words.next() {
         match word.as_str() {
             "--long" => (task.seeds, task.calls) = (5_000, 400),
-            "--counts" => task.counts = true,
-            "--faults" => task.faults = Fault::ALL.into_iter().map(Some).collect(),
+            "--reached" => task.reached = true,
+            "--faults" => task.faults = (1..=Fault::ALL.len()).collect(),
             "--fault" => {
                 let number: usize = words.next()?.parse().ok()?;
-                task.faults = vec![Some(*Fault::ALL.get(number.checked_sub(1)?)?)];
+                task.faults = vec![number];
+                Fault::ALL.get(number.checked_sub(1)?)?;
             }
             word => {
                 let number: u64 = word.parse().ok()?;
@@ -77,51 +82,65 @@ fn parse(words: &[String]) -> Option<Task> {
     Some(task)
 }
 
-fn run(task: &Task) -> ExitCode {
+impl Task {
+    fn search(&self, fault: Option<Fault>, counts: &mut Counts) -> Option<Found> {
+        let seeds = self.first..self.first.saturating_add(self.seeds);
+        search::<Linked>(seeds, self.calls, fault, counts)
+    }
+}
+
+/// Compares all lists. Answers whether all are alike, and every row reached if that is asked.
+fn compare(task: &Task) -> bool {
+    let start = Instant::now();
+    let mut counts = Counts::new();
+    if let Some(found) = task.search(None, &mut counts) {
+        report(found, None, counts.all());
+        return false;
+    }
+    let (calls, refused) = (counts.all(), counts.refused());
+    let seconds = start.elapsed().as_secs_f64();
+    println!("{} seeds from {}, the crossed list and the heap", task.seeds, task.first);
+    println!("{calls} calls, {refused} refused");
+    println!("all alike, {seconds:.1} s, {:.2} s for 100,000 calls", seconds * 1e5 / calls as f64);
+    if !task.reached {
+        return true;
+    }
+    print!("{counts}");
+    let missing = counts.missing();
+    for row in &missing {
+        println!("never reached: {row}");
+    }
+    missing.is_empty()
+}
+
+/// Looks for faults. Answers whether all are found.
+fn find(task: &Task) -> bool {
     let mut missed = 0;
-    for &fault in &task.faults {
-        let found = compare(task, fault);
-        missed += usize::from(found == fault.is_none());
+    for &number in &task.faults {
+        let fault = Fault::ALL[number - 1];
+        let mut counts = Counts::new();
+        println!("fault {number}: {fault}");
+        match task.search(Some(fault), &mut counts) {
+            Some(found) => report(found, Some(fault), counts.all()),
+            None => {
+                println!("not found in {} calls\n", counts.all());
+                missed += 1;
+            }
+        }
     }
     if task.faults.len() > 1 {
         println!("{} of {} faults found", task.faults.len() - missed, task.faults.len());
     }
-    if missed == 0 { ExitCode::SUCCESS } else { ExitCode::from(1) }
+    missed == 0
 }
 
-/// Compares all seeds, or as many as it takes. Answers whether something differs.
-fn compare(task: &Task, fault: Option<Fault>) -> bool {
-    let start = Instant::now();
-    let mut counts = Counts::new();
-    if let Some(fault) = fault {
-        println!("fault {}: {fault}", fault as usize + 1);
-    }
-    for seed in task.first..task.first.saturating_add(task.seeds) {
-        if let Some(found) = explore::<Linked>(seed, task.calls, fault, &mut counts) {
-            let before = counts.values().sum::<u64>() + 1;
-            report(found, fault, before);
-            return true;
-        }
-    }
-    let calls: u64 = counts.values().sum();
-    let refused: u64 =
-        counts.iter().filter(|((_, number, _), _)| *number != 0).map(|(_, n)| n).sum();
-    let seconds = start.elapsed().as_secs_f64();
-    println!("{} seeds from {}, {calls} calls, {refused} refused", task.seeds, task.first);
-    println!("all alike, {seconds:.1} s, {:.2} s for 100,000 calls", seconds * 1e5 / calls as f64);
-    if task.counts {
-        println!();
-        for ((call, number, cause), count) in &counts {
-            println!("{count:9}  {call} {number} {cause}");
-        }
-    }
-    false
-}
-
-fn report(found: Found, fault: Option<Fault>, before: u64) {
-    println!("seed {} differs after {} of its calls", found.seed, found.calls.len());
-    println!("({before} calls in all)");
-    let found = found.shortest::<Linked>(fault);
+fn report(found: Found, fault: Option<Fault>, calls: u64) {
+    println!("{} differs after {} of its calls", found.name, found.calls.len());
+    println!("({calls} calls in all)");
+    let found = match fault {
+        Some(_) => found.shortest_within::<Linked>(PATIENCE, fault),
+        None => found.shortest::<Linked>(fault),
+    };
     println!("shortest list found, {} calls:\n\n{}", found.calls.len(), found.as_test());
     println!("at the last call, {}\n", found.difference);
 }

@@ -5,15 +5,16 @@ use std::time::{Duration, Instant};
 
 use crate::call::Call;
 
-/// Shrinking ends after this time, with the best list so far.
-const PATIENCE: Duration = Duration::from_secs(30);
-
-/// The shortest list found. `fails` says whether a list still shows a difference, and after how
-/// many calls.
-pub fn shrink(mut calls: Vec<Call>, fails: impl Fn(&[Call]) -> Option<usize>) -> Vec<Call> {
+/// The shortest list found before patience ends. `fails` says whether a list still shows a
+/// difference, and after how many calls.
+pub fn shrink(
+    mut calls: Vec<Call>,
+    patience: Duration,
+    fails: impl Fn(&[Call]) -> Option<usize>,
+) -> Vec<Call> {
     let start = Instant::now();
     let mut attempt = |best: &mut Vec<Call>, candidate: Vec<Call>| {
-        if start.elapsed() > PATIENCE {
+        if start.elapsed() > patience {
             return false;
         }
         let Some(length) = fails(&candidate) else { return false };

@@ -1,89 +1,67 @@
-//! The comparison finds every fault that can be put into the model, and none where there is none;
-//! and its lists of calls come to every refusal of the paper.
+//! The comparison finds every fault that can be put around the model, and none where there is none;
+//! and its lists of calls come to every row of the tables.
 
-use shootspiral_check::Linked;
-use shootspiral_check::explore::{Counts, explore};
+use shootspiral_check::explore::{Counts, Found, search};
 use shootspiral_check::fault::Fault;
+use shootspiral_check::model::Model;
+use shootspiral_check::{Call, Calls, Linked, checks};
 
-const SEEDS: std::ops::RangeInclusive<u64> = 1..=60;
+const SEEDS: std::ops::Range<u64> = 1..101;
 const CALLS: usize = 300;
+
+fn find(fault: Fault) -> Found {
+    let found = search::<Linked>(SEEDS, CALLS, Some(fault), &mut Counts::new());
+    found.unwrap_or_else(|| panic!("not found: {fault}"))
+}
 
 #[test]
 fn every_fault_is_found() {
-    for fault in Fault::ALL {
-        let find = |seed| explore::<Linked>(seed, CALLS, Some(fault), &mut Counts::new());
-        let found = SEEDS.into_iter().find_map(find);
-        let found = found.unwrap_or_else(|| panic!("not found: {fault}"));
-        let shortest = found.shortest::<Linked>(Some(fault));
+    for &fault in Fault::ALL {
+        find(fault);
+    }
+}
+
+/// Faults that a handful of calls shows are shown by no more.
+#[test]
+fn short_lists_are_found() {
+    for &fault in &Fault::ALL[..20] {
+        let shortest = find(fault).shortest::<Linked>(Some(fault));
         assert!(shortest.calls.len() <= 12, "{fault}: {}", shortest.as_test());
     }
 }
 
-/// The paper's refusals, call by call; those that share a cause and a number once.
-const REFUSALS: [(&str, u32, usize); 51] = [
-    ("admit", 17, 1),
-    ("admit", 22, 1),
-    ("charge", 3, 1),
-    ("charge", 12, 1),
-    ("charge", 22, 1),
-    ("exit", 3, 1),
-    ("fork", 3, 1),
-    ("fork", 11, 1),
-    ("fork", 17, 1),
-    ("fork", 22, 1),
-    ("hand_over", 2, 1),
-    ("hand_over", 13, 1),
-    ("hand_over", 22, 2),
-    ("make", 2, 1),
-    ("make", 11, 1),
-    ("make", 13, 1),
-    ("make", 17, 1),
-    ("make", 22, 1),
-    ("membership", 3, 1),
-    ("membership", 28, 1),
-    ("read", 2, 4),
-    ("read", 22, 1),
-    ("read", 28, 1),
-    ("release", 2, 1),
-    ("release", 22, 2),
-    ("release", 34, 1),
-    ("remove", 2, 1),
-    ("remove", 13, 1),
-    ("remove", 16, 3),
-    ("remove", 22, 1),
-    ("write_procs", 2, 1),
-    ("write_procs", 3, 2),
-    ("write_procs", 13, 3),
-    ("write_procs", 16, 1),
-    ("write_procs", 22, 3),
-    ("write_setting", 2, 3),
-    ("write_setting", 13, 1),
-    ("write_setting", 22, 5),
-    ("write_setting", 34, 2),
-    ("write_subtree_control", 2, 2),
-    ("write_subtree_control", 13, 1),
-    ("write_subtree_control", 16, 2),
-    ("write_subtree_control", 22, 3),
-    ("admit", 0, 1),
-    ("charge", 0, 1),
-    ("exit", 0, 1),
-    ("first_bad_word", 0, 1),
-    ("fork", 0, 1),
-    ("make", 0, 1),
-    ("release", 0, 1),
-    ("remove", 0, 1),
-];
-
 #[test]
-fn every_refusal_is_met() {
+fn every_row_is_reached() {
     let mut counts = Counts::new();
-    for seed in SEEDS {
-        if let Some(found) = explore::<Linked>(seed, CALLS, None, &mut counts) {
-            panic!("{}\n{}", found.as_test(), found.difference);
-        }
+    if let Some(found) = search::<Linked>(SEEDS, CALLS, None, &mut counts) {
+        panic!("{}\n{}", found.as_test(), found.difference);
     }
-    for (call, number, causes) in REFUSALS {
-        let met = counts.keys().filter(|key| (key.0, key.1) == (call, number)).count();
-        assert_eq!(met, causes, "{call} {number}");
+    assert_eq!(counts.missing(), [""; 0]);
+}
+
+/// The model makes the checks of each call in the order of the table.
+#[test]
+fn the_checks_are_those_of_the_table() {
+    let (file, line, room) = (vec![], vec![], 0);
+    let calls = [
+        Call::Make { user: 0, parent: 0, group: 0 },
+        Call::Remove { user: 0, group: 0 },
+        Call::HandOver { user: 0, group: 0, owner: 0 },
+        Call::WriteProcs { user: 0, group: 0, line: line.clone() },
+        Call::WriteSubtreeControl { user: 0, group: 0, line: line.clone() },
+        Call::WriteSetting { user: 0, group: 0, file: file.clone(), line },
+        Call::Admit { process: 0, user: 0 },
+        Call::Fork { parent: 0, process: 0 },
+        Call::Exit { process: 0 },
+        Call::Charge { process: 0, pages: 0 },
+        Call::Release { group: 0, pages: 0 },
+        Call::Read { group: 0, file, room },
+        Call::Membership { process: 0, room },
+    ];
+    let model = Model::fresh(0);
+    assert_eq!(calls.len(), checks::TABLE.len());
+    for (call, (name, rows)) in calls.iter().zip(checks::TABLE) {
+        let checks: Vec<_> = model.checks(call).into_iter().map(|(_, check)| check).collect();
+        assert_eq!((call.name(), &checks[..]), (*name, *rows));
     }
 }

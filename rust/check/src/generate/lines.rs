@@ -209,6 +209,15 @@ impl Generator {
         self.random.pick(&bad).to_vec()
     }
 
+    /// A word that is no number, and no "max".
+    pub(super) fn malformed_word(&mut self) -> Vec<u8> {
+        self.random.pick(&[b"x".as_slice(), b"-1", b"5:", b"/5", b"0x5", b"maxx", b"5\t"]).to_vec()
+    }
+
+    pub(super) fn bad_control_word(&mut self) -> Vec<u8> {
+        self.random.pick(&BAD_WORDS).to_vec()
+    }
+
     /// The line as it is, or with spaces, newlines, an odd byte, or cut and drawn to a length.
     fn dressed(&mut self, mut line: Vec<u8>) -> Vec<u8> {
         if !self.random.percent(self.taste.odd_lines) {

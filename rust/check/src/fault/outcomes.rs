@@ -1,0 +1,255 @@
+//! Faults of a host that does more than a call asks, or less, or answers otherwise.
+
+use super::Outcome;
+use crate::call::Call;
+use crate::calls::{Calls, NO_GROUP};
+use crate::checks::{fork, release, write_procs};
+use crate::model::{CPU, DEFAULTS, Limit, Model, Process, control_word, number, words};
+
+/// The process that a line of cgroup.procs names, as it was before the call.
+fn moved<'a>(model: &'a Model, line: &[u8]) -> Option<&'a Process> {
+    model.process(u64::try_from(number(words(line).first()?)?).ok()?)
+}
+
+/// The figure of a setting's line.
+fn figure(line: &[u8]) -> Option<u64> {
+    u64::try_from(number(words(line).first()?)?).ok()
+}
+
+pub(super) fn pages_move(done: &mut Outcome) {
+    if let Call::WriteProcs { group, line, .. } = done.call
+        && done.is_success()
+        && let Some(moved) = moved(done.before, line)
+    {
+        let pages = std::mem::take(&mut done.after.group_mut(moved.group).own_pages);
+        done.after.group_mut(*group).own_pages += pages;
+    }
+}
+
+pub(super) fn limit_stops_move(done: &mut Outcome) {
+    if let Call::WriteProcs { group, line, .. } = done.call
+        && done.is_success()
+        && let Some(moved) = moved(done.before, line)
+    {
+        let source = done.before.chain(moved.group);
+        let is_full = |up: &u64| {
+            let limit = done.before.group(*up).and_then(|g| g.settings.pids_max);
+            !source.contains(up) && limit.is_some_and(|max| done.before.population(*up) >= max)
+        };
+        if done.before.chain(*group).iter().any(is_full) {
+            done.refuse(11);
+        }
+    }
+}
+
+pub(super) fn ancestor_not_asked(done: &mut Outcome) {
+    let Call::WriteProcs { user, group, line } = done.call else { return };
+    let Some(moved) = moved(done.before, line) else { return };
+    let may = done.before.may_write(*user, moved.group);
+    let refused = done.refused_by();
+    if refused == Some(write_procs::MAY_NOT_WRITE_LOWEST) && may {
+        done.answer.number = done.after.write_procs(0, *group, line);
+    }
+    if !may && refused.is_none_or(|check| check == write_procs::HAS_SET) {
+        done.refuse(13);
+    }
+}
+
+/// The children of a group whose controllers were written, if that changed anything.
+fn children(done: &Outcome) -> Vec<u64> {
+    match done.call {
+        Call::WriteSubtreeControl { group, .. } if done.is_success() => {
+            done.before.children(*group).collect()
+        }
+        _ => vec![],
+    }
+}
+
+pub(super) fn settings_kept(done: &mut Outcome) {
+    for child in children(done) {
+        keep_settings(done, child);
+    }
+}
+
+pub(super) fn nine_children_reset(done: &mut Outcome) {
+    for child in children(done).into_iter().skip(9) {
+        keep_settings(done, child);
+    }
+}
+
+fn keep_settings(done: &mut Outcome, child: u64) {
+    if let Some(before) = done.before.group(child) {
+        done.after.group_mut(child).settings = before.settings;
+    }
+}
+
+pub(super) fn word_by_word(done: &mut Outcome) {
+    if let Call::WriteSubtreeControl { line, .. } = done.call
+        && words(line).contains(&b"-cpu".as_slice())
+    {
+        for child in children(done) {
+            done.after.group_mut(child).settings.reset(CPU);
+        }
+    }
+}
+
+pub(super) fn asked_again_joins(done: &mut Outcome) {
+    if let Call::WriteSubtreeControl { group, line, .. } = done.call
+        && done.is_success()
+        && *group != 0
+        && done.before.holds(*group).next().is_some()
+        && words(line).into_iter().filter_map(control_word).any(|(_, joins)| joins)
+    {
+        done.refuse(16);
+    }
+}
+
+/// The group, file and line of a setting that was written.
+fn setting<'a>(done: &Outcome<'a>) -> Option<(u64, &'a [u8], &'a [u8])> {
+    match done.call {
+        Call::WriteSetting { group, file, line, .. } if done.is_success() => {
+            Some((*group, file, line))
+        }
+        _ => None,
+    }
+}
+
+pub(super) fn rounded_down(done: &mut Outcome) {
+    if let Some((group, b"memory.max", line)) = setting(done) {
+        let pages = figure(line).map(|bytes| bytes / 4096);
+        done.after.group_mut(group).settings.memory_max = pages;
+    }
+}
+
+pub(super) fn limit_below_usage_refused(done: &mut Outcome) {
+    if let Some((group, b"pids.max", line)) = setting(done)
+        && figure(line).is_some_and(|max| max < done.before.population(group))
+    {
+        done.refuse(16);
+    }
+}
+
+pub(super) fn period_reset(done: &mut Outcome) {
+    if let Some((group, b"cpu.max", line)) = setting(done)
+        && words(line).len() == 1
+    {
+        done.after.group_mut(group).settings.cpu_period = DEFAULTS.cpu_period;
+    }
+}
+
+pub(super) fn consulted_one_short(done: &mut Outcome) {
+    if matches!(done.call, Call::Charge { .. } | Call::Fork { .. })
+        && done.answer.told[0] != NO_GROUP
+    {
+        done.answer.told[1] -= 1;
+    }
+}
+
+/// The group of a process that was to be charged, and the pages.
+fn charged(done: &Outcome) -> Option<(u64, u64)> {
+    match done.call {
+        Call::Charge { process, pages } => Some((done.before.process(*process)?.group, *pages)),
+        _ => None,
+    }
+}
+
+pub(super) fn half_charged(done: &mut Outcome) {
+    if let Some((group, pages)) = charged(done)
+        && done.answer.number == 12
+        && done.answer.told[0] != group
+    {
+        done.after.group_mut(group).own_pages += pages;
+    }
+}
+
+pub(super) fn compared_in_36_bits(done: &mut Outcome) {
+    let Some((group, pages)) = charged(done) else { return };
+    let chain = done.before.chain(group);
+    let limit = |up: u64| -> Limit {
+        match up {
+            0 => Some(done.before.machine()),
+            _ => done.before.group(up)?.settings.memory_max,
+        }
+    };
+    let has_room =
+        |&up: &u64| limit(up).is_none_or(|max| done.before.usage(up) % (1 << 24) + pages <= max);
+    if done.answer.number == 12 && chain.iter().all(has_room) {
+        done.after.group_mut(group).own_pages += pages;
+        done.answer.number = 0;
+        done.answer.told[..2].copy_from_slice(&[NO_GROUP, chain.len() as u64]);
+    }
+}
+
+pub(super) fn own_pages_in_22_bits(done: &mut Outcome) {
+    if let Some((group, _)) = charged(done) {
+        done.after.group_mut(group).own_pages %= 1 << 22;
+    }
+}
+
+pub(super) fn release_not_live_22(done: &mut Outcome) {
+    if done.refused_by() == Some(release::NOT_LIVE) {
+        done.answer.number = 22;
+    }
+}
+
+/// A 256th process is counted as none.
+pub(super) fn population_in_8_bits(done: &mut Outcome) {
+    if let Call::Fork { parent, process } = done.call
+        && done.refused_by() == Some(fork::PIDS_LIMIT)
+        && done.before.live_processes().count() == 255
+        && done.before.population(done.answer.told[0]) == 255
+        && let Some(forked) = done.before.process(*parent)
+    {
+        done.after.admit(*process, forked.user);
+        done.after.write_procs(0, forked.group, process.to_string().as_bytes());
+        done.answer.number = 0;
+        let consulted = done.before.chain(forked.group).len() as u64;
+        done.answer.told[..2].copy_from_slice(&[NO_GROUP, consulted]);
+    }
+}
+
+/// A group that was removed, its parent and its own pages.
+fn removed(done: &Outcome) -> Option<(u64, u64, u64)> {
+    match done.call {
+        Call::Remove { group, .. } if done.is_success() => {
+            let removed = done.before.group(*group)?;
+            Some((*group, removed.parent, removed.own_pages))
+        }
+        _ => None,
+    }
+}
+
+pub(super) fn pages_dropped(done: &mut Outcome) {
+    if let Some((_, parent, pages)) = removed(done) {
+        done.after.group_mut(parent).own_pages -= pages;
+    }
+}
+
+pub(super) fn pages_to_root(done: &mut Outcome) {
+    if let Some((_, parent, pages)) = removed(done) {
+        done.after.group_mut(parent).own_pages -= pages;
+        done.after.group_mut(0).own_pages += pages;
+    }
+}
+
+pub(super) fn settings_outlive(done: &mut Outcome) {
+    if let Some((group, ..)) = removed(done)
+        && let Some(removed) = done.before.group(group)
+    {
+        done.removed.insert(group, removed.settings);
+    }
+    if let Call::Make { group, .. } = done.call
+        && done.is_success()
+        && let Some(settings) = done.removed.remove(group)
+    {
+        done.after.group_mut(*group).settings = settings;
+    }
+}
+
+pub(super) fn hand_over_empties_set(done: &mut Outcome) {
+    if let Call::HandOver { group, .. } = done.call
+        && done.is_success()
+    {
+        done.after.group_mut(*group).set = [false; 3];
+    }
+}

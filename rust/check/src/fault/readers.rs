@@ -1,0 +1,84 @@
+//! Faults of a host that shows a reader something else.
+
+use super::{Asked, Reading};
+use crate::calls::Calls;
+
+impl Reading<'_> {
+    /// The text that was put into the buffer.
+    fn text(&self) -> Option<&str> {
+        if self.number != 0 {
+            return None;
+        }
+        std::str::from_utf8(&self.reply[..self.told[0] as usize]).ok()
+    }
+
+    /// Puts a text that is no longer than the right one in its place.
+    fn show(&mut self, text: &str) {
+        self.reply[..text.len()].copy_from_slice(text.as_bytes());
+        *self.told = [text.len() as u64];
+    }
+}
+
+pub(super) fn byte_after_text(reading: &mut Reading) -> u32 {
+    let after = reading.told[0] as usize;
+    if reading.number == 0 && after < reading.reply.len() {
+        reading.reply[after] = 0;
+    }
+    reading.number
+}
+
+pub(super) fn short_buffer_written(reading: &mut Reading) -> u32 {
+    if reading.number == 28 {
+        let (mut whole, mut told) = ([0; 1024], [0]);
+        match reading.asked {
+            Asked::File(group, file) => reading.model.read(group, file, &mut whole, &mut told),
+            Asked::Membership(process) => reading.model.membership(process, &mut whole, &mut told),
+        };
+        reading.reply.copy_from_slice(&whole[..reading.reply.len()]);
+    }
+    reading.number
+}
+
+pub(super) fn exact_is_short(reading: &mut Reading) -> u32 {
+    let room = reading.reply.len() as u64;
+    if reading.number == 0 && reading.told[0] == room && room > 0 { 28 } else { reading.number }
+}
+
+pub(super) fn only_own_processes(reading: &mut Reading) -> u32 {
+    if let Asked::File(group, b"cgroup.events") = reading.asked
+        && reading.number == 0
+        && reading.model.holds(group).next().is_none()
+    {
+        reading.show("populated 0\n");
+    }
+    reading.number
+}
+
+fn usage_modulo(reading: &mut Reading, bytes: u64) -> u32 {
+    if let Asked::File(_, b"memory.current") = reading.asked
+        && let Some(usage) = reading.text().and_then(|text| text.trim_end().parse::<u64>().ok())
+    {
+        reading.show(&format!("{}\n", usage % bytes));
+    }
+    reading.number
+}
+
+pub(super) fn usage_in_36_bits(reading: &mut Reading) -> u32 {
+    usage_modulo(reading, 1 << 36)
+}
+
+pub(super) fn usage_in_44_bits(reading: &mut Reading) -> u32 {
+    usage_modulo(reading, 1 << 44)
+}
+
+pub(super) fn depth_8_cut_short(reading: &mut Reading) -> u32 {
+    if let Asked::Membership(_) = reading.asked
+        && let Some(text) = reading.text()
+        && text.matches('/').count() == 8
+        && let Some((above, _)) = text.rsplit_once('/')
+    {
+        let shorter = format!("{above}\n");
+        reading.show(&shorter);
+    }
+    reading.number
+}

@@ -1,0 +1,121 @@
+//! The faults, one after the other.
+
+use super::Slip::{Instead, Outcome, Reader, Swapped};
+use super::{Fault, instead, outcomes, readers};
+use crate::checks::{
+    charge, fork, make, release, remove, write_procs, write_setting, write_subtree_control,
+};
+
+const fn fault(text: &'static str, slip: super::Slip) -> Fault {
+    Fault { text, slip }
+}
+
+pub(super) const FAULTS: &[Fault] = &[
+    fault("pages move along with a process", Outcome(outcomes::pages_move)),
+    fault("a pids limit stops a move", Outcome(outcomes::limit_stops_move)),
+    fault(
+        "a move asks source and target, not their common ancestor",
+        Outcome(outcomes::ancestor_not_asked),
+    ),
+    fault("a controller that leaves does not reset its settings", Outcome(outcomes::settings_kept)),
+    fault("memory.max is rounded down to a page", Outcome(outcomes::rounded_down)),
+    fault(
+        "the group that refuses is not counted as consulted",
+        Outcome(outcomes::consulted_one_short),
+    ),
+    fault("remove drops the group's own pages", Outcome(outcomes::pages_dropped)),
+    fault("a number with leading zeros is malformed", Instead(instead::leading_zeros_refused)),
+    fault(
+        "the first word on a controller counts, not the last",
+        Instead(instead::first_word_counts),
+    ),
+    fault("the byte after a reply's text is overwritten", Reader(readers::byte_after_text)),
+    fault("make asks 13 before 17", Swapped(make::NEW_IS_LIVE, make::MAY_NOT_WRITE_PARENT)),
+    fault("a group's owner may write its own settings", Instead(instead::owner_sets_limit)),
+    fault("a charge refused further up leaves pages behind", Outcome(outcomes::half_charged)),
+    fault("number words wrap at 64 bits", Instead(instead::numbers_wrap)),
+    fault(
+        "a line's newline is not counted in its 128 bytes",
+        Instead(instead::newline_not_counted),
+    ),
+    fault("\"-cpu +cpu\" resets the children's settings", Outcome(outcomes::word_by_word)),
+    fault(
+        "a buffer that is too short is filled all the same",
+        Reader(readers::short_buffer_written),
+    ),
+    fault(
+        "cgroup.events looks at the group's own processes only",
+        Reader(readers::only_own_processes),
+    ),
+    fault(
+        "a pids limit below present usage is refused",
+        Outcome(outcomes::limit_below_usage_refused),
+    ),
+    fault("\"-pids\" asks that pids be available", Instead(instead::wanted_any_word)),
+    // Numbers in range that are not live.
+    fault(
+        "release from a number in range that is not live is 22",
+        Outcome(outcomes::release_not_live_22),
+    ),
+    fault("a move to a group that is not live goes to the root", Instead(instead::dead_is_root)),
+    // Figures that need more bits than a careless host has.
+    fault("memory.current is shown modulo 2^36 bytes", Reader(readers::usage_in_36_bits)),
+    fault("memory.current is shown modulo 2^44 bytes", Reader(readers::usage_in_44_bits)),
+    fault("charge compares usage modulo 2^36 bytes", Outcome(outcomes::compared_in_36_bits)),
+    fault("own pages are kept in 22 bits", Outcome(outcomes::own_pages_in_22_bits)),
+    fault("fork counts processes in 8 bits", Outcome(outcomes::population_in_8_bits)),
+    // Lines and words.
+    fault("a second word for pids.max is ignored", Instead(instead::second_word_ignored)),
+    fault("the byte before 0 is a digit", Instead(instead::slash_is_digit)),
+    fault("the byte after 9 is a digit", Instead(instead::colon_is_digit)),
+    fault("the question looks at 4,096 bytes only", Instead(instead::question_cut_short)),
+    fault("cpu.max of one word resets the period", Outcome(outcomes::period_reset)),
+    // Effects that go too far, or not far enough.
+    fault(
+        "a controller that leaves resets the first nine children only",
+        Outcome(outcomes::nine_children_reset),
+    ),
+    fault(
+        "a group made again has the settings of the removed one",
+        Outcome(outcomes::settings_outlive),
+    ),
+    fault("a removed group's own pages go to the root", Outcome(outcomes::pages_to_root)),
+    fault("hand over empties the control set", Outcome(outcomes::hand_over_empties_set)),
+    fault(
+        "asking for a controller that is in the set counts as joining",
+        Outcome(outcomes::asked_again_joins),
+    ),
+    // Readers.
+    fault(
+        "the membership line of depth 8 loses its last number",
+        Reader(readers::depth_8_cut_short),
+    ),
+    fault("a buffer of exactly the length is too short", Reader(readers::exact_is_short)),
+    // Two checks in the wrong order.
+    fault(
+        "remove asks for processes before the user",
+        Swapped(remove::MAY_NOT_WRITE_PARENT, remove::HAS_PROCESS),
+    ),
+    fault(
+        "a move asks for the set before the common ancestor",
+        Swapped(write_procs::MAY_NOT_WRITE_LOWEST, write_procs::HAS_SET),
+    ),
+    fault(
+        "a control line asks what is available before it reads every word",
+        Swapped(write_subtree_control::BAD_WORD, write_subtree_control::NOT_AVAILABLE),
+    ),
+    fault(
+        "a setting asks for the user before its controller",
+        Swapped(write_setting::NOT_ON, write_setting::MAY_NOT_WRITE_PARENT),
+    ),
+    fault(
+        "cpu.max asks for the range before it reads the period",
+        Swapped(write_setting::PERIOD_MALFORMED, write_setting::RANGE),
+    ),
+    fault("fork asks for room before 17", Swapped(fork::NEW_IS_LIVE, fork::PIDS_LIMIT)),
+    fault("charge asks for pages before the process", Swapped(charge::NOT_LIVE, charge::NO_PAGES)),
+    fault(
+        "release asks for the group before the pages",
+        Swapped(release::NO_PAGES, release::NOT_LIVE),
+    ),
+];

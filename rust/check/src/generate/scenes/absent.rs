@@ -1,0 +1,140 @@
+//! Numbers that are not live: not yet, or not any more.
+
+use super::super::Generator;
+use super::super::arguments::SETTINGS;
+use super::ALL;
+use crate::call::Call;
+use crate::compare::FILES;
+use crate::model::Model;
+
+impl Generator {
+    /// A group that had everything and is removed; every call on its number, on one that never was
+    /// live or on one above 63; then it is made again under another parent, by another user, where
+    /// all its settings show.
+    pub(super) fn afterlife(&mut self, sketch: &mut Model) {
+        let above = self.live_group(sketch);
+        let Some(group) = self.child(sketch, 0, above) else { return };
+        let owner = self.random.pick(&self.taste.users);
+        self.enrich(sketch, group, owner);
+        self.plan(sketch, Call::Remove { user: 0, group });
+
+        let Some(process) = self.random.one_of(sketch.live_processes()) else { return };
+        let never = self.free_group(sketch).unwrap_or(group);
+        let live = self.live_group(sketch);
+        let absent = match self.random.below(10) {
+            0..6 => group,
+            6 | 7 => never,
+            _ => self.random.pick(&[64, 65, 128, 1 << 32, u64::MAX]),
+        };
+        for mut call in calls_on(absent, process, live) {
+            let anyone = self.random.pick(&[0, owner, owner.wrapping_add(1)]);
+            set_user(&mut call, anyone);
+            self.plan(sketch, call);
+        }
+        for file in [self.random.pick(&SETTINGS), self.random.pick(&SETTINGS)] {
+            let (file, line) = (file.to_vec(), b"2000".to_vec());
+            self.plan(sketch, Call::WriteSetting { user: 0, group: absent, file, line });
+        }
+        let (file, room) = (self.random.pick(&FILES).to_vec(), self.random.pick(&[0, 64]));
+        self.plan(sketch, Call::Read { group: absent, file, room });
+
+        let parent = self.live_group(sketch);
+        let user = self.writer(sketch, parent);
+        self.plan(sketch, Call::Make { user, parent, group });
+        self.reach(sketch, group, ALL);
+        self.plan(sketch, Call::Release { group, pages: 1 });
+        self.plan(sketch, Call::WriteSubtreeControl { user: owner, group, line: vec![] });
+    }
+
+    /// Pages, an owner, settings and a set.
+    fn enrich(&mut self, sketch: &mut Model, group: u64, owner: u32) {
+        self.reach(sketch, group, ALL);
+        if let Some(process) = self.settler(sketch, owner, group) {
+            let pages = self.random.within(1, 9);
+            self.plan(sketch, Call::Charge { process, pages });
+            self.migrate(sketch, 0, process, 0);
+        }
+        self.set(sketch, group, "memory.max", 40_960);
+        self.set(sketch, group, "pids.max", 2);
+        self.set(sketch, group, "cpu.weight", 9);
+        let (file, line) = (b"cpu.max".to_vec(), b"5000 7000".to_vec());
+        self.plan(sketch, Call::WriteSetting { user: 0, group, file, line });
+        self.control(sketch, group, ALL);
+        self.plan(sketch, Call::HandOver { user: 0, group, owner });
+    }
+
+    /// A process that is gone, or never was; every call on its number, with the arguments that
+    /// would do and with others; then it is there again, as another user's.
+    pub(super) fn departed(&mut self, sketch: &mut Model) {
+        let group = self.live_group(sketch);
+        let owner = sketch.group(group).map_or(0, |kept| kept.owner);
+        let Some(process) = self.settler(sketch, owner, group) else { return };
+        self.plan(sketch, Call::Charge { process, pages: 1 });
+        self.plan(sketch, Call::Exit { process });
+        let Some(never) = self.free_process(sketch) else { return };
+        let absent = if self.random.percent(70) { process } else { never };
+        let live = self.random.one_of(sketch.live_processes()).unwrap_or(0);
+        let free = self.free_process(sketch).unwrap_or(0);
+        for new in [free, live, absent, 0, 257] {
+            self.plan(sketch, Call::Fork { parent: absent, process: new });
+        }
+        for pages in [1, 0, 1_048_577] {
+            self.plan(sketch, Call::Charge { process: absent, pages });
+        }
+        for room in [0, 64] {
+            self.plan(sketch, Call::Membership { process: absent, room });
+        }
+        self.plan(sketch, Call::Exit { process: absent });
+        for user in [0, owner, owner.wrapping_add(1)] {
+            let group = self.any_group(sketch);
+            self.migrate(sketch, user, absent, group);
+            self.migrate(sketch, user, absent, 0);
+        }
+        let user = self.user();
+        match self.random.one_of(sketch.live_processes()) {
+            Some(parent) if self.random.percent(50) => {
+                self.plan(sketch, Call::Fork { parent, process });
+            }
+            _ => self.plan(sketch, Call::Admit { process, user }),
+        }
+    }
+}
+
+/// Each call that takes a group, with arguments that are right otherwise, and with wrong ones.
+fn calls_on(group: u64, process: u64, live: u64) -> Vec<Call> {
+    let user = 0;
+    let line = |text: &str| text.as_bytes().to_vec();
+    vec![
+        Call::Make { user, parent: group, group: live },
+        Call::Make { user, parent: group, group },
+        Call::Make { user, parent: group, group: 64 },
+        Call::Remove { user, group },
+        Call::HandOver { user, group, owner: 7 },
+        Call::WriteProcs { user, group, line: process.to_string().into() },
+        Call::WriteProcs { user, group, line: line("x") },
+        Call::WriteProcs { user, group, line: line("257") },
+        Call::WriteSubtreeControl { user, group, line: line("") },
+        Call::WriteSubtreeControl { user, group, line: line("+memory") },
+        Call::WriteSubtreeControl { user, group, line: line("x") },
+        Call::WriteSubtreeControl { user, group, line: vec![b' '; 129] },
+        Call::WriteSetting { user, group, file: line("memory.max"), line: line("x") },
+        Call::WriteSetting { user, group, file: line("pids.max"), line: vec![b'0'; 129] },
+        Call::WriteSetting { user, group, file: line("memory"), line: line("1") },
+        Call::Read { group, file: line("memory"), room: 0 },
+        Call::Release { group, pages: 1 },
+        Call::Release { group, pages: 0 },
+        Call::Release { group, pages: 1_048_577 },
+    ]
+}
+
+fn set_user(call: &mut Call, by: u32) {
+    match call {
+        Call::Make { user, .. }
+        | Call::Remove { user, .. }
+        | Call::HandOver { user, .. }
+        | Call::WriteProcs { user, .. }
+        | Call::WriteSubtreeControl { user, .. }
+        | Call::WriteSetting { user, .. } => *user = by,
+        _ => {}
+    }
+}

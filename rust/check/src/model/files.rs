@@ -1,0 +1,228 @@
+//! The files that are written.
+
+use super::lines::one_number;
+use super::*;
+use crate::checks::{write_procs, write_setting, write_subtree_control};
+
+const ALL: [usize; 3] = [CPU, MEMORY, PIDS];
+
+// cgroup.procs.
+impl Model {
+    pub(super) fn write_procs_checks(&self, user: u32, group: u64, line: &[u8]) -> [Test; 13] {
+        let words = words(line).len();
+        let number = one_number(line);
+        let process = number.and_then(|number| self.process(u64::try_from(number).ok()?));
+        let lowest = process.and_then(|process| self.lowest_on_both(process.group, group));
+        let has_set = self.group(group).is_some_and(|g| g.set != EMPTY);
+        [
+            (group > LAST_GROUP, write_procs::ABOVE_63),
+            (self.group(group).is_none(), write_procs::NOT_LIVE),
+            (!self.may_write(user, group), write_procs::MAY_NOT_WRITE),
+            (line.len() > LONGEST_LINE, write_procs::LONG_LINE),
+            (words == 0, write_procs::NO_WORD),
+            (words > 1, write_procs::MORE_WORDS),
+            (words == 1 && number.is_none(), write_procs::NOT_A_NUMBER),
+            (number == Some(0), write_procs::IS_0),
+            (number.is_some_and(|n| n > u128::from(LAST_PROCESS)), write_procs::ABOVE_256),
+            (number.is_some() && process.is_none(), write_procs::PROCESS_NOT_LIVE),
+            (user != 0 && process.is_none_or(|p| p.user != user), write_procs::NOT_ITS_USER),
+            (
+                lowest.is_some_and(|lowest| !self.may_write(user, lowest)),
+                write_procs::MAY_NOT_WRITE_LOWEST,
+            ),
+            (group != ROOT && has_set, write_procs::HAS_SET),
+        ]
+    }
+
+    pub(super) fn try_write_procs(&mut self, user: u32, group: u64, line: &[u8]) -> Verdict {
+        decide(&self.write_procs_checks(user, group, line))?;
+        let process = one_number(line).expect("checked") as usize;
+        self.processes[process].as_mut().expect("checked").group = group;
+        Ok(())
+    }
+}
+
+// cgroup.subtree_control.
+impl Model {
+    /// The group's set after the line: the last word on a controller counts.
+    fn set_after(&self, group: u64, line: &[u8]) -> Set {
+        let mut set = self.group(group).map_or(EMPTY, |g| g.set);
+        for (controller, joins) in words(line).into_iter().filter_map(control_word) {
+            set[controller] = joins;
+        }
+        set
+    }
+
+    pub(super) fn write_subtree_control_checks(
+        &self,
+        user: u32,
+        group: u64,
+        line: &[u8],
+    ) -> [Test; 8] {
+        let good = || words(line).into_iter().filter_map(control_word);
+        let old = self.group(group).map_or(EMPTY, |g| g.set);
+        let new = self.set_after(group, line);
+        let is_wanted = |k: usize| new[k] && good().any(|(controller, _)| controller == k);
+        let in_childs_set = |k: usize| {
+            self.children(group).any(|child| self.group(child).is_some_and(|g| g.set[k]))
+        };
+        let holds_process = group != ROOT && self.holds(group).next().is_some();
+        [
+            (group > LAST_GROUP, write_subtree_control::ABOVE_63),
+            (self.group(group).is_none(), write_subtree_control::NOT_LIVE),
+            (!self.may_write(user, group), write_subtree_control::MAY_NOT_WRITE),
+            (line.len() > LONGEST_LINE, write_subtree_control::LONG_LINE),
+            (good().count() < words(line).len(), write_subtree_control::BAD_WORD),
+            (
+                ALL.into_iter().any(|k| is_wanted(k) && !self.is_available(k, group)),
+                write_subtree_control::NOT_AVAILABLE,
+            ),
+            (
+                ALL.into_iter().any(|k| old[k] && !new[k] && in_childs_set(k)),
+                write_subtree_control::IN_CHILDS_SET,
+            ),
+            (
+                holds_process && ALL.into_iter().any(|k| new[k] && !old[k]),
+                write_subtree_control::HOLDS_PROCESS,
+            ),
+        ]
+    }
+
+    pub(super) fn try_write_subtree_control(
+        &mut self,
+        user: u32,
+        group: u64,
+        line: &[u8],
+    ) -> Verdict {
+        decide(&self.write_subtree_control_checks(user, group, line))?;
+        let new = self.set_after(group, line);
+        let old = std::mem::replace(&mut self.group_mut(group).set, new);
+        let children: Vec<u64> = self.children(group).collect();
+        for child in children {
+            for controller in ALL.into_iter().filter(|&k| old[k] && !new[k]) {
+                self.group_mut(child).settings.reset(controller);
+            }
+        }
+        Ok(())
+    }
+}
+
+impl Settings {
+    pub(crate) fn reset(&mut self, controller: usize) {
+        match controller {
+            CPU => {
+                self.cpu_weight = DEFAULTS.cpu_weight;
+                self.cpu_max = DEFAULTS.cpu_max;
+                self.cpu_period = DEFAULTS.cpu_period;
+            }
+            MEMORY => self.memory_max = DEFAULTS.memory_max,
+            _ => self.pids_max = DEFAULTS.pids_max,
+        }
+    }
+}
+
+/// What may be written to a setting.
+struct Form {
+    controller: usize,
+    takes_max: bool,
+    range: std::ops::RangeInclusive<u128>,
+    words: usize,
+}
+
+const PERIOD: std::ops::RangeInclusive<u128> = 1_000..=1_000_000;
+
+fn form(file: &[u8]) -> Option<Form> {
+    let (controller, takes_max, range, words) = match file {
+        b"memory.max" => (MEMORY, true, 0..=4_503_599_627_370_496, 1),
+        b"pids.max" => (PIDS, true, 0..=4_194_304, 1),
+        b"cpu.weight" => (CPU, false, 1..=10_000, 1),
+        b"cpu.max" => (CPU, true, 1_000..=1_000_000_000, 2),
+        _ => return None,
+    };
+    Some(Form { controller, takes_max, range, words })
+}
+
+/// What the words of a line say: a figure or no limit, and the period after it.
+#[derive(Default)]
+struct Said {
+    malformed: bool,
+    figure: Option<u128>,
+    period_malformed: bool,
+    period: Option<u128>,
+}
+
+impl Form {
+    fn said(&self, line: &[u8]) -> Said {
+        let mut said = Said::default();
+        let words = words(line);
+        if let Some(&word) = words.first()
+            && !(self.takes_max && word == b"max")
+        {
+            said.figure = number(word);
+            said.malformed = said.figure.is_none();
+        }
+        if let Some(&word) = words.get(1)
+            && self.words == 2
+        {
+            said.period = number(word);
+            said.period_malformed = said.period.is_none();
+        }
+        said
+    }
+}
+
+// The four settings.
+impl Model {
+    pub(super) fn write_setting_checks(
+        &self,
+        user: u32,
+        group: u64,
+        file: &[u8],
+        line: &[u8],
+    ) -> [Test; 12] {
+        let form = form(file);
+        let said = form.as_ref().map(|form| form.said(line)).unwrap_or_default();
+        let words = words(line).len();
+        let is_in_form = |test: &dyn Fn(&Form) -> bool| form.as_ref().is_some_and(test);
+        [
+            (group > LAST_GROUP, write_setting::ABOVE_63),
+            (self.group(group).is_none(), write_setting::NOT_LIVE),
+            (form.is_none(), write_setting::NOT_A_SETTING),
+            (is_in_form(&|form| !self.is_on(form.controller, group)), write_setting::NOT_ON),
+            (!self.may_write_parent(user, group), write_setting::MAY_NOT_WRITE_PARENT),
+            (line.len() > LONGEST_LINE, write_setting::LONG_LINE),
+            (words == 0, write_setting::NO_WORD),
+            (is_in_form(&|form| words > form.words), write_setting::MORE_WORDS),
+            (said.malformed, write_setting::MALFORMED),
+            (said.period_malformed, write_setting::PERIOD_MALFORMED),
+            (
+                is_in_form(&|form| said.figure.is_some_and(|n| !form.range.contains(&n))),
+                write_setting::RANGE,
+            ),
+            (said.period.is_some_and(|n| !PERIOD.contains(&n)), write_setting::PERIOD_RANGE),
+        ]
+    }
+
+    pub(super) fn try_write_setting(
+        &mut self,
+        user: u32,
+        group: u64,
+        file: &[u8],
+        line: &[u8],
+    ) -> Verdict {
+        decide(&self.write_setting_checks(user, group, file, line))?;
+        let Said { figure, period, .. } = form(file).expect("checked").said(line);
+        let figure = figure.map(|figure| figure as u64);
+        let settings = &mut self.group_mut(group).settings;
+        match file {
+            b"memory.max" => settings.memory_max = figure.map(|bytes| bytes.div_ceil(PAGE)),
+            b"pids.max" => settings.pids_max = figure,
+            b"cpu.weight" => settings.cpu_weight = figure.expect("checked"),
+            _ => {
+                settings.cpu_max = figure;
+                settings.cpu_period = period.map_or(settings.cpu_period, |period| period as u64);
+            }
+        }
+        Ok(())
+    }
+}

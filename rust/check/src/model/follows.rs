@@ -1,0 +1,106 @@
+//! A fresh tree, and what follows from what is kept.
+
+use super::*;
+
+impl Model {
+    pub fn new(machine: u64) -> Model {
+        let root = Group { parent: ROOT, owner: 0, set: EMPTY, own_pages: 0, settings: DEFAULTS };
+        let mut groups = [None; LAST_GROUP as usize + 1];
+        groups[ROOT as usize] = Some(root);
+        let processes = [None; LAST_PROCESS as usize + 1];
+        Model { machine: machine.min(LARGEST_MACHINE), groups, processes }
+    }
+
+    pub fn machine(&self) -> u64 {
+        self.machine
+    }
+
+    /// The group with this number, if it is live.
+    pub fn group(&self, group: u64) -> Option<&Group> {
+        self.groups.get(usize::try_from(group).ok()?)?.as_ref()
+    }
+
+    pub(crate) fn group_mut(&mut self, group: u64) -> &mut Group {
+        self.groups[group as usize].as_mut().expect("a live group")
+    }
+
+    /// The process with this number, if it is live.
+    pub fn process(&self, process: u64) -> Option<&Process> {
+        self.processes.get(usize::try_from(process).ok()?)?.as_ref()
+    }
+
+    pub fn live_groups(&self) -> impl Iterator<Item = u64> {
+        (0..=LAST_GROUP).filter(|&group| self.group(group).is_some())
+    }
+
+    pub fn live_processes(&self) -> impl Iterator<Item = u64> {
+        (1..=LAST_PROCESS).filter(|&process| self.process(process).is_some())
+    }
+
+    pub fn children(&self, group: u64) -> impl Iterator<Item = u64> {
+        self.live_groups().filter(move |&child| self.parent(child) == Some(group))
+    }
+
+    /// The live processes of the group itself, ascending.
+    pub fn holds(&self, group: u64) -> impl Iterator<Item = u64> {
+        self.live_processes()
+            .filter(move |&process| self.process(process).is_some_and(|p| p.group == group))
+    }
+
+    /// The parent of a live group; the root has none.
+    pub(super) fn parent(&self, group: u64) -> Option<u64> {
+        self.group(group).filter(|_| group != ROOT).map(|g| g.parent)
+    }
+
+    /// The group, its parent and so on to the root; empty if the group is not live.
+    pub fn chain(&self, group: u64) -> Vec<u64> {
+        let live = self.group(group).map(|_| group);
+        std::iter::successors(live, |&lowest| self.parent(lowest)).collect()
+    }
+
+    pub fn depth(&self, group: u64) -> usize {
+        self.chain(group).len().saturating_sub(1)
+    }
+
+    /// Whether `inner` is `outer` or a descendant of it.
+    fn is_inside(&self, inner: u64, outer: u64) -> bool {
+        inner == outer || self.parent(inner).is_some_and(|parent| self.is_inside(parent, outer))
+    }
+
+    /// The own pages of all groups inside the group.
+    pub fn usage(&self, group: u64) -> u64 {
+        let inside = self.live_groups().filter(|&inner| self.is_inside(inner, group));
+        inside.map(|inner| self.group(inner).map_or(0, |g| g.own_pages)).sum()
+    }
+
+    /// The number of live processes inside the group.
+    pub fn population(&self, group: u64) -> u64 {
+        let all = self.processes.iter().flatten();
+        all.filter(|process| self.is_inside(process.group, group)).count() as u64
+    }
+
+    /// Whether a controller is on: the group is not the root, and its parent has it in its set.
+    pub fn is_on(&self, controller: usize, group: u64) -> bool {
+        let parent = self.parent(group).and_then(|parent| self.group(parent));
+        parent.is_some_and(|parent| parent.set[controller])
+    }
+
+    /// The root has all three, others what is on.
+    pub fn is_available(&self, controller: usize, group: u64) -> bool {
+        group == ROOT || self.is_on(controller, group)
+    }
+
+    pub(crate) fn may_write(&self, user: u32, group: u64) -> bool {
+        user == 0 || self.group(group).is_some_and(|g| g.owner == user)
+    }
+
+    pub(super) fn may_write_parent(&self, user: u32, group: u64) -> bool {
+        user == 0 || self.parent(group).is_some_and(|parent| self.may_write(user, parent))
+    }
+
+    /// The lowest group that is on both chains.
+    pub(super) fn lowest_on_both(&self, source: u64, target: u64) -> Option<u64> {
+        let target = self.chain(target);
+        self.chain(source).into_iter().find(|group| target.contains(group))
+    }
+}

@@ -1,0 +1,139 @@
+//! The largest machine, filled to the last page: figures that a list of a few hundred calls does
+//! not come to. The answers are the paper's, the figures arithmetic; up to a little more than 2^32
+//! pages the model is asked as well.
+
+#[macro_use]
+mod common;
+
+use common::rows::{admit, charge, control, exit, make, procs, release, remove, setting};
+use common::{read, shown};
+use shootspiral_check::calls::NO_GROUP;
+use shootspiral_check::{Call, Calls, Linked, agree};
+
+const MACHINE: u64 = 1 << 40;
+const MOST: u64 = 1 << 20;
+
+both! {
+    brim
+}
+
+/// Groups 1 to 8, each under the one before, memory on in all of them, and process 5 in 8.
+fn ladder() -> Vec<Call> {
+    let mut calls = vec![];
+    for group in 1..=8 {
+        calls.push(control(0, group - 1, "+memory"));
+        calls.push(make(0, group - 1, group));
+    }
+    calls.extend([admit(5, 7), procs(0, 8, "5")]);
+    calls
+}
+
+#[track_caller]
+fn succeed<H: Calls>(host: &mut H, calls: impl IntoIterator<Item = Call>) {
+    for call in calls {
+        assert_eq!(call.on(host, 0).number, 0, "{call}");
+    }
+}
+
+/// The number of a charge by process 5, and what it tells.
+fn charged<H: Calls>(host: &mut H, pages: u64) -> (u32, u64, u64) {
+    common::charge(host, 5, pages)
+}
+
+#[track_caller]
+fn uses<H: Calls>(host: &H, groups: impl IntoIterator<Item = u64>, pages: u64) {
+    for group in groups {
+        assert_eq!(shown(host, group, "memory.current"), format!("{}\n", pages * 4096), "{group}");
+    }
+}
+
+/// 1,048,576 charges of 1,048,576 pages, and as many releases; between them limits at the whole
+/// machine and a page below, and the pages passed up from group 8 to the root.
+#[test]
+fn every_page() {
+    let mut host = Linked::fresh(MACHINE);
+    succeed(&mut host, ladder());
+    for charges in 1..=MACHINE / MOST {
+        assert_eq!(charged(&mut host, MOST), (0, NO_GROUP, 9), "{charges}");
+        if charges.is_power_of_two() || charges % 99_991 == 0 {
+            uses(&host, 1..=8, charges * MOST);
+        }
+    }
+    assert_eq!(shown(&host, 8, "memory.current"), "4503599627370496\n");
+    for pages in [1, MOST] {
+        assert_eq!(charged(&mut host, pages), (12, 0, 9));
+    }
+
+    assert_eq!(setting(0, 4, "memory.max", "4503599627370496").on(&mut host, 0).number, 0);
+    assert_eq!(charged(&mut host, 1), (12, 4, 5));
+    succeed(&mut host, [setting(0, 8, "memory.max", "4503599627366400")]);
+    assert_eq!(charged(&mut host, 1), (12, 8, 1));
+    succeed(&mut host, [release(8, 1)]);
+    assert_eq!(charged(&mut host, 1), (12, 8, 1));
+    succeed(&mut host, [release(8, MOST - 1)]);
+    uses(&host, 1..=8, MACHINE - MOST);
+    assert_eq!(charged(&mut host, MOST), (12, 8, 1));
+    assert_eq!(charged(&mut host, MOST - 1), (0, NO_GROUP, 9));
+    succeed(&mut host, [setting(0, 8, "memory.max", "max")]);
+    assert_eq!(charged(&mut host, 2), (12, 4, 5));
+    assert_eq!(charged(&mut host, 1), (0, NO_GROUP, 9));
+    uses(&host, 1..=8, MACHINE);
+
+    succeed(&mut host, [exit(5)]);
+    for group in (1..=8).rev() {
+        succeed(&mut host, [remove(0, group)]);
+        uses(&host, 1..group, MACHINE);
+    }
+    succeed(&mut host, [admit(5, 7)]);
+    assert_eq!(charged(&mut host, 1), (12, 0, 1));
+    for _ in 0..MACHINE / MOST {
+        succeed(&mut host, [release(0, MOST)]);
+    }
+    assert_eq!(release(0, 1).on(&mut host, 0).number, 34);
+    assert_eq!(charged(&mut host, 1), (0, NO_GROUP, 1));
+}
+
+/// A machine of 2^24 and some pages, every page of it at the bottom.
+fn brim<H: Calls>() {
+    let machine = 16 * MOST + 77;
+    let mut host = H::fresh(machine);
+    succeed(&mut host, ladder());
+    for charges in 1..=16 {
+        assert_eq!(charged(&mut host, MOST), (0, NO_GROUP, 9));
+        uses(&host, 1..=8, charges * MOST);
+    }
+    assert_eq!(charged(&mut host, 78), (12, 0, 9));
+    assert_eq!(charged(&mut host, 77), (0, NO_GROUP, 9));
+    assert_eq!(charged(&mut host, 1), (12, 0, 9));
+    uses(&host, 1..=8, machine);
+    assert_eq!(read(&host, 0, "memory.current"), Err(2));
+}
+
+/// Past 2^22, 2^24 and 2^32 pages, every file compared after every call: limits about the usage on
+/// each group in turn, releases, and the pages passed up.
+#[test]
+fn past_four_thousand_million_pages() {
+    let charges = (1 << 12) + 2;
+    let usage = charges * MOST;
+    let mut calls = ladder();
+    calls.extend((0..charges).map(|_| charge(5, MOST)));
+    for group in 1..=8 {
+        for room in [0, 1, MOST - 1] {
+            let limit = (usage + room) * 4096;
+            calls.push(setting(0, group, "memory.max", limit.to_string()));
+            calls.extend([charge(5, MOST), charge(5, room + 1)]);
+        }
+        let below = (usage - 1) * 4096;
+        for bytes in [below, below + 1, 1 << 44, (1 << 44) - 1] {
+            calls.push(setting(0, group, "memory.max", bytes.to_string()));
+            calls.push(charge(5, 1));
+        }
+        calls.push(setting(0, group, "memory.max", "max"));
+    }
+    calls.extend([release(7, 1), release(8, MOST), charge(5, MOST), exit(5)]);
+    for group in (4..=8).rev() {
+        calls.extend([release(group, MOST), remove(0, group), release(group, 1)]);
+    }
+    calls.extend([release(2, 1), release(3, MOST), release(3, 1)]);
+    agree::<Linked>(MACHINE, &calls);
+}

@@ -1,0 +1,217 @@
+//! The lists of calls come to places that dice seldom reach: numbers that are not live, figures by
+//! the million, many children, every process, bytes beside the digits, long lines.
+
+use std::collections::BTreeMap;
+
+use shootspiral_check::generate::Generator;
+use shootspiral_check::model::{CONTROLLERS, CPU, MEMORY, Model, PIDS};
+use shootspiral_check::{Call, Calls};
+
+const SEEDS: std::ops::RangeInclusive<u64> = 1..=100;
+const CALLS: usize = 300;
+
+/// Each place, and how often a run must come to it.
+const PLACES: [(&str, u64); 43] = [
+    ("make under a group not live", 20),
+    ("remove of a group not live", 20),
+    ("hand_over of a group not live", 20),
+    ("write_procs of a group not live", 20),
+    ("write_subtree_control of a group not live", 20),
+    ("write_setting of a group not live", 20),
+    ("release of a group not live", 20),
+    ("read of a group not live", 20),
+    ("fork of a process not live", 20),
+    ("exit of a process not live", 20),
+    ("charge of a process not live", 20),
+    ("membership of a process not live", 20),
+    ("a group made again under another parent", 20),
+    ("a group with pages removed at depth 4 or below", 5),
+    ("a group made under depth 7", 20),
+    ("a group not made under depth 8", 20),
+    ("a charge above 2^24 pages", 50),
+    ("a limit that stops a charge above 2^24 pages", 10),
+    ("a release from more than 2^22 own pages", 20),
+    ("a group with more than 2^22 pages removed", 2),
+    ("cpu leaves ten children with settings", 3),
+    ("memory leaves ten children with settings", 3),
+    ("pids leaves ten children with settings", 3),
+    ("two words to memory.max", 10),
+    ("two words to pids.max", 10),
+    ("two words to cpu.weight", 10),
+    ("three words to cpu.max", 10),
+    ("memory.max with / or :", 5),
+    ("pids.max with / or :", 5),
+    ("cpu.weight with / or :", 5),
+    ("cpu.max with / or :", 5),
+    ("cgroup.procs with / or :", 5),
+    ("a fork of the 255th process inside", 3),
+    ("a fork of the 256th process inside", 3),
+    ("a fork stopped at 255 processes", 3),
+    ("every process in a buffer that they fill", 2),
+    ("every process in a buffer one byte short", 2),
+    ("a long line without a bad word", 5),
+    ("a long line with a bad word first", 5),
+    ("a long line with a bad word last", 5),
+    ("a long line with a bad word within", 5),
+    ("a long line of one word", 5),
+    ("a move that the common ancestor's owner alone may make", 20),
+];
+
+#[test]
+fn every_place_is_come_to() {
+    let mut counts: BTreeMap<String, u64> = BTreeMap::new();
+    for seed in SEEDS {
+        let mut generator = Generator::new(seed);
+        let mut model = Model::fresh(generator.machine());
+        let mut parents = BTreeMap::new();
+        for _ in 0..CALLS {
+            let call = generator.next(&model);
+            let before = model.clone();
+            let answer = call.on(&mut model, 0);
+            for place in places(&before, &call, answer.number, &answer.told) {
+                *counts.entry(place).or_default() += 1;
+            }
+            if let (Call::Make { parent, group, .. }, 0) = (&call, answer.number)
+                && parents.insert(*group, *parent).is_some_and(|former| former != *parent)
+            {
+                *counts.entry("a group made again under another parent".into()).or_default() += 1;
+            }
+        }
+    }
+    let count = |place: &str| counts.get(place).copied().unwrap_or(0);
+    let rare = PLACES.iter().filter(|(place, often)| count(place) < *often);
+    let rare: Vec<_> = rare.map(|(place, _)| format!("{place}: {}", count(place))).collect();
+    assert!(rare.is_empty(), "{rare:#?}");
+}
+
+/// The places that a call comes to, by the model before it and by its answer.
+fn places(model: &Model, call: &Call, number: u32, told: &[u64]) -> Vec<String> {
+    let mut places = absent(model, call);
+    let mut note = |is_there: bool, place: &str| {
+        if is_there {
+            places.push(place.into());
+        }
+    };
+    let own = |group: u64| model.group(group).map_or(0, |kept| kept.own_pages);
+    match call {
+        Call::Make { parent, .. } => {
+            note(number == 11, "a group not made under depth 8");
+            note(number == 0 && model.depth(*parent) == 7, "a group made under depth 7");
+        }
+        Call::Remove { group, .. } => {
+            let is_deep = number == 0 && model.depth(*group) >= 4;
+            note(is_deep && own(*group) > 0, "a group with pages removed at depth 4 or below");
+            let is_rich = number == 0 && own(*group) > 1 << 22;
+            note(is_rich, "a group with more than 2^22 pages removed");
+        }
+        Call::Charge { .. } => {
+            let many = 1 << 24;
+            note(number == 0 && model.usage(0) > many, "a charge above 2^24 pages");
+            let stops = number == 12 && told[0] != 0 && model.usage(told[0]) > many;
+            note(stops, "a limit that stops a charge above 2^24 pages");
+        }
+        Call::Release { group, .. } => {
+            let is_large = number == 0 && own(*group) > 1 << 22;
+            note(is_large, "a release from more than 2^22 own pages");
+        }
+        Call::WriteSubtreeControl { group, line, .. } if number == 0 => {
+            for name in left_by(model, *group, line) {
+                note(true, &format!("{name} leaves ten children with settings"));
+            }
+        }
+        Call::WriteSetting { file, line, .. } if number == 22 => {
+            let words = line.split(|&byte| byte == b' ').filter(|word| !word.is_empty()).count();
+            let file = String::from_utf8_lossy(file);
+            note(words == 2, &format!("two words to {file}"));
+            note(words == 3, &format!("three words to {file}"));
+            note(is_beside_digits(line), &format!("{file} with / or :"));
+        }
+        Call::WriteProcs { user, group, line } => {
+            note(number == 22 && is_beside_digits(line), "cgroup.procs with / or :");
+            let is_owner = model.group(*group).is_some_and(|kept| kept.owner == *user);
+            let process = std::str::from_utf8(line).ok().and_then(|line| line.trim().parse().ok());
+            let moved = process.and_then(|process| model.process(process));
+            let is_own = is_owner && moved.is_some_and(|kept| kept.user == *user);
+            note(number == 13 && is_own, "a move that the common ancestor's owner alone may make");
+        }
+        Call::Fork { parent, .. } => {
+            let group = model.process(*parent).map_or(0, |kept| kept.group);
+            let limited =
+                |&up: &u64| model.group(up).is_some_and(|kept| kept.settings.pids_max.is_some());
+            let inside = model.chain(group).into_iter().find(limited);
+            let inside = inside.map_or(0, |up| model.population(up));
+            note(number == 0 && inside == 254, "a fork of the 255th process inside");
+            note(number == 0 && inside == 255, "a fork of the 256th process inside");
+            note(number == 11 && inside == 255, "a fork stopped at 255 processes");
+        }
+        Call::Read { group, room, .. } => {
+            let all = model.holds(*group).count() == 256;
+            note(all && (*room, told[0]) == (916, 916), "every process in a buffer that they fill");
+            note(all && (*room, number) == (915, 28), "every process in a buffer one byte short");
+        }
+        Call::FirstBadWord { line } if line.len() > 2_000 => {
+            let after = line.len() as u64 - told[0] - told[1];
+            let place = match (told[0], told[1], after) {
+                (_, 0, _) => "a long line without a bad word",
+                (0, _, 0 | 1) => "a long line of one word",
+                (0, _, _) => "a long line with a bad word first",
+                (_, _, 0 | 1) => "a long line with a bad word last",
+                _ => "a long line with a bad word within",
+            };
+            note(true, place);
+        }
+        _ => {}
+    }
+    places
+}
+
+/// Whether the line has one of the two bytes beside the digits.
+fn is_beside_digits(line: &[u8]) -> bool {
+    line.iter().any(|byte| b"/:".contains(byte))
+}
+
+/// Numbers in range that are not live.
+fn absent(model: &Model, call: &Call) -> Vec<String> {
+    let (group, process, how) = match call {
+        Call::Make { parent, .. } => (Some(*parent), None, "under"),
+        Call::Remove { group, .. }
+        | Call::HandOver { group, .. }
+        | Call::WriteProcs { group, .. }
+        | Call::WriteSubtreeControl { group, .. }
+        | Call::WriteSetting { group, .. }
+        | Call::Release { group, .. }
+        | Call::Read { group, .. } => (Some(*group), None, "of"),
+        Call::Fork { parent, .. } => (None, Some(*parent), "of"),
+        Call::Exit { process }
+        | Call::Charge { process, .. }
+        | Call::Membership { process, .. } => (None, Some(*process), "of"),
+        Call::Admit { .. } | Call::FirstBadWord { .. } => (None, None, ""),
+    };
+    let mut places = vec![];
+    if group.is_some_and(|group| group <= 63 && model.group(group).is_none()) {
+        places.push(format!("{} {how} a group not live", call.name()));
+    }
+    if process.is_some_and(|n| (1..=256).contains(&n) && model.process(n).is_none()) {
+        places.push(format!("{} {how} a process not live", call.name()));
+    }
+    places
+}
+
+/// The controllers that a line makes leave ten children and more with settings of theirs.
+fn left_by(model: &Model, group: u64, line: &[u8]) -> Vec<&'static str> {
+    let children: Vec<_> = model.children(group).filter_map(|child| model.group(child)).collect();
+    let is_set = |k: usize| {
+        let with_settings = children.iter().filter(|child| match k {
+            CPU => child.settings.cpu_weight != 100,
+            MEMORY => child.settings.memory_max.is_some(),
+            _ => child.settings.pids_max.is_some(),
+        });
+        with_settings.count() >= 10
+    };
+    let leaves = |k: usize| {
+        line.trim_ascii_end() == format!("-{}", CONTROLLERS[k]).as_bytes()
+            && model.group(group).is_some_and(|kept| kept.set[k])
+    };
+    let left = [CPU, MEMORY, PIDS].into_iter().filter(|&k| leaves(k) && is_set(k));
+    left.map(|k| CONTROLLERS[k]).collect()
+}
