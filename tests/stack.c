@@ -8,6 +8,7 @@
  * and is refused by its checks, walks chains of nine cgroups and writes the longest texts.
  */
 #include <stdio.h>
+#include <stdlib.h>
 #include <string.h>
 
 #include "shootspiral.h"
@@ -18,8 +19,8 @@
 
 typedef void function(void);
 
-/* Calls the function with these seven words, on the stack below `top`. */
-void call_below(uint64_t *top, function *called, const uint64_t arguments[7]);
+/* Calls the function with these seven words, on the stack below `top`, and answers what it does. */
+uint32_t call_below(uint64_t *top, function *called, const uint64_t arguments[7]);
 
 __asm__(".text\n"
         ".globl call_below\n"
@@ -42,15 +43,15 @@ __asm__(".text\n"
         "	pop %rbp\n"
         "	ret\n");
 
-/* The bytes of stack that a call takes. Two words stay for the caller's part. */
-static size_t taken(function *called, const uint64_t arguments[7], uint64_t paint)
+/* The bytes of stack that a call takes, and its answer. Two words stay for the caller's part. */
+static size_t taken(function *called, const uint64_t arguments[7], uint64_t paint, uint32_t *answer)
 {
 	static uint64_t stack[STACK_WORDS + 2] __attribute__((aligned(16)));
 	size_t clean = 0;
 
 	for (size_t i = 0; i < STACK_WORDS; i++)
 		stack[i] = paint;
-	call_below(&stack[STACK_WORDS], called, arguments);
+	*answer = call_below(&stack[STACK_WORDS], called, arguments);
 	while (clean < STACK_WORDS && stack[clean] == paint)
 		clean++;
 	return (STACK_WORDS - clean) * sizeof stack[0];
@@ -64,24 +65,26 @@ static struct call {
 	const char *name;
 	function *called;
 	const char *takes;
+	int answers; /* whether it answers a number */
 	size_t most;
+	int is_accepted, is_refused;
 } calls[] = {
-	{ "ss_fresh", (function *)ss_fresh, "TN", 0 },
-	{ "ss_tree_words", (function *)ss_tree_words, "", 0 },
-	{ "ss_make", (function *)ss_make, "TUGG", 0 },
-	{ "ss_remove", (function *)ss_remove, "TUG", 0 },
-	{ "ss_hand_over", (function *)ss_hand_over, "TUGU", 0 },
-	{ "ss_write_procs", (function *)ss_write_procs, "TUGL", 0 },
-	{ "ss_write_subtree_control", (function *)ss_write_subtree_control, "TUGL", 0 },
-	{ "ss_write_setting", (function *)ss_write_setting, "TUGFL", 0 },
-	{ "ss_admit", (function *)ss_admit, "TPU", 0 },
-	{ "ss_fork", (function *)ss_fork, "TPPt", 0 },
-	{ "ss_exit", (function *)ss_exit, "TP", 0 },
-	{ "ss_charge", (function *)ss_charge, "TPNt", 0 },
-	{ "ss_release", (function *)ss_release, "TGN", 0 },
-	{ "ss_read", (function *)ss_read, "TGFRt", 0 },
-	{ "ss_membership", (function *)ss_membership, "TPRt", 0 },
-	{ "ss_first_bad_word", (function *)ss_first_bad_word, "Lt", 0 },
+	{ "ss_fresh", (function *)ss_fresh, "TN", 0, 0, 0, 0 },
+	{ "ss_tree_words", (function *)ss_tree_words, "", 0, 0, 0, 0 },
+	{ "ss_make", (function *)ss_make, "TUGG", 1, 0, 0, 0 },
+	{ "ss_remove", (function *)ss_remove, "TUG", 1, 0, 0, 0 },
+	{ "ss_hand_over", (function *)ss_hand_over, "TUGU", 1, 0, 0, 0 },
+	{ "ss_write_procs", (function *)ss_write_procs, "TUGL", 1, 0, 0, 0 },
+	{ "ss_write_subtree_control", (function *)ss_write_subtree_control, "TUGL", 1, 0, 0, 0 },
+	{ "ss_write_setting", (function *)ss_write_setting, "TUGFL", 1, 0, 0, 0 },
+	{ "ss_admit", (function *)ss_admit, "TPU", 1, 0, 0, 0 },
+	{ "ss_fork", (function *)ss_fork, "TPPt", 1, 0, 0, 0 },
+	{ "ss_exit", (function *)ss_exit, "TP", 1, 0, 0, 0 },
+	{ "ss_charge", (function *)ss_charge, "TPNt", 1, 0, 0, 0 },
+	{ "ss_release", (function *)ss_release, "TGN", 1, 0, 0, 0 },
+	{ "ss_read", (function *)ss_read, "TGFRt", 1, 0, 0, 0 },
+	{ "ss_membership", (function *)ss_membership, "TPRt", 1, 0, 0, 0 },
+	{ "ss_first_bad_word", (function *)ss_first_bad_word, "Lt", 0, 0, 0, 0 },
 };
 
 static const uint64_t users[] = { 0, 1000, UINT32_MAX };
@@ -122,12 +125,15 @@ static void measure(struct call *call, const uint64_t arguments[7])
 
 	for (size_t i = 0; i < COUNT(trees); i++) {
 		for (size_t j = 0; j < COUNT(paints); j++) {
+			uint32_t answer;
 			size_t bytes;
 
 			memcpy(tree, trees[i], sizeof tree);
-			bytes = taken(call->called, arguments, paints[j]);
+			bytes = taken(call->called, arguments, paints[j], &answer);
 			if (bytes > call->most)
 				call->most = bytes;
+			call->is_accepted |= answer == SS_OK;
+			call->is_refused |= answer != SS_OK;
 		}
 	}
 }
@@ -190,12 +196,21 @@ static void vary(struct call *call, const char *takes, uint64_t arguments[7], si
 	}
 }
 
+/* A tree is to be what its maker says, or the figures are of something else. */
+static void must(uint32_t answer)
+{
+	if (answer != SS_OK) {
+		fprintf(stderr, "a call that makes a tree was refused with %d\n", (int)answer);
+		exit(1);
+	}
+}
+
 static void set_all(uint64_t *t, ss_group group, const char *memory, const char *pids)
 {
-	ss_write_setting(t, ss_u(0), group, BYTES("memory.max"), BYTES(memory));
-	ss_write_setting(t, ss_u(0), group, BYTES("pids.max"), BYTES(pids));
-	ss_write_setting(t, ss_u(0), group, BYTES("cpu.weight"), BYTES("10000"));
-	ss_write_setting(t, ss_u(0), group, BYTES("cpu.max"), BYTES("1000000000 1000000"));
+	must(ss_write_setting(t, ss_u(0), group, BYTES("memory.max"), BYTES(memory)));
+	must(ss_write_setting(t, ss_u(0), group, BYTES("pids.max"), BYTES(pids)));
+	must(ss_write_setting(t, ss_u(0), group, BYTES("cpu.weight"), BYTES("10000")));
+	must(ss_write_setting(t, ss_u(0), group, BYTES("cpu.max"), BYTES("1000000000 1000000")));
 }
 
 /*
@@ -209,11 +224,11 @@ static void make_deep(uint64_t *t, uint64_t first, int step, uint64_t count, uin
 
 	ss_fresh(t, SS_MAX_MACHINE_PAGES);
 	for (int depth = 1; depth <= SS_MAX_DEPTH; depth++) {
-		ss_write_subtree_control(t, ss_u(0), ss_g(above), BYTES("+cpu +memory +pids"));
-		ss_make(t, ss_u(0), ss_g(above), ss_g(group));
+		must(ss_write_subtree_control(t, ss_u(0), ss_g(above), BYTES("+cpu +memory +pids")));
+		must(ss_make(t, ss_u(0), ss_g(above), ss_g(group)));
 		set_all(t, ss_g(group), "4503599627370496", "4194304");
 		if (depth > 1)
-			ss_hand_over(t, ss_u(0), ss_g(group), ss_u(1000));
+			must(ss_hand_over(t, ss_u(0), ss_g(group), ss_u(1000)));
 		above = group;
 		group += step;
 	}
@@ -221,11 +236,11 @@ static void make_deep(uint64_t *t, uint64_t first, int step, uint64_t count, uin
 		char line[24];
 
 		snprintf(line, sizeof line, "%d", (int)process);
-		ss_admit(t, ss_p(process), ss_u(1000));
-		ss_write_procs(t, ss_u(0), ss_g(above), BYTES(line));
+		must(ss_admit(t, ss_p(process), ss_u(1000)));
+		must(ss_write_procs(t, ss_u(0), ss_g(above), BYTES(line)));
 	}
 	for (uint64_t i = 0; i < charges; i++)
-		ss_charge(t, ss_p(1), SS_MAX_PAGES, told);
+		must(ss_charge(t, ss_p(1), SS_MAX_PAGES, told));
 }
 
 static void make_trees(void)
@@ -235,16 +250,16 @@ static void make_trees(void)
 	ss_fresh(trees[0], 1024);
 	/* Room for a process and a charge more, and a second leaf to move to. */
 	make_deep(deep, 1, 1, SS_LAST_PROCESS - 1, SS_MAX_MACHINE_PAGES / SS_MAX_PAGES - 1);
-	ss_make(deep, ss_u(0), ss_g(7), ss_g(9));
-	ss_hand_over(deep, ss_u(0), ss_g(9), ss_u(1000));
+	must(ss_make(deep, ss_u(0), ss_g(7), ss_g(9)));
+	must(ss_hand_over(deep, ss_u(0), ss_g(9), ss_u(1000)));
 	make_deep(full, 63, -1, SS_LAST_PROCESS, SS_MAX_MACHINE_PAGES / SS_MAX_PAGES);
 	/* No room in the last but one that is asked. */
 	make_deep(tight, 56, 1, SS_LAST_PROCESS - 1, 1);
 	set_all(tight, ss_g(56), "0", "0");
 	ss_fresh(wide, 1024);
-	ss_write_subtree_control(wide, ss_u(0), ss_g(0), BYTES("+cpu +memory +pids"));
+	must(ss_write_subtree_control(wide, ss_u(0), ss_g(0), BYTES("+cpu +memory +pids")));
 	for (uint64_t group = 1; group <= SS_LAST_GROUP; group++) {
-		ss_make(wide, ss_u(0), ss_g(0), ss_g(group));
+		must(ss_make(wide, ss_u(0), ss_g(0), ss_g(group)));
 		set_all(wide, ss_g(group), "4096", "1");
 	}
 }
@@ -256,6 +271,10 @@ int main(void)
 		uint64_t arguments[7] = { 0 };
 
 		vary(&calls[i], calls[i].takes, arguments, 0);
+		if (calls[i].answers && !(calls[i].is_accepted && calls[i].is_refused)) {
+			fprintf(stderr, "%s was never accepted, or never refused\n", calls[i].name);
+			return 1;
+		}
 		printf("%s %d\n", calls[i].name, (int)calls[i].most);
 	}
 	return 0;

@@ -17,6 +17,7 @@ my @compilers = (
     { run => 'gcc -std=c99', ending => 'c', refusal => qr/^incompatible type for argument \d+ of /, names_all => 1 },
     # g++ stops at the first argument of a call that does not fit.
     { run => 'g++ -std=c++98', ending => 'cpp', refusal => qr/^(?:cannot|could not) convert /, names_all => 0 },
+    { run => 'g++ -std=c++17', ending => 'cpp', refusal => qr/^(?:cannot|could not) convert /, names_all => 0 },
 );
 
 # The types of numbers: what each is passed as, what makes one of that, and a variable of each.

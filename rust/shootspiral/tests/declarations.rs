@@ -1,9 +1,9 @@
 //! `include/shootspiral.h` and `src/sys.rs` declare what `crates/shootspiral` exports: names,
 //! arguments in order, types, results. From each exported function the declarations in C and in Rust
 //! are written out, and compared as text with those of the two files. A number that the function's
-//! body takes for a group or a process, as in `GroupId(parent)`, has to be declared as one. So is
-//! the promise of each call on a tree written out and compared, which the theorem of
-//! `crates/demands` stands on.
+//! body takes for a group or a process, as in `GroupId(parent)`, has to be declared as one. The
+//! promise of each call on a tree, which the theorem of `crates/demands` stands on, is written out
+//! and compared too.
 
 use std::fs;
 use std::path::PathBuf;
