@@ -6,7 +6,6 @@ use std::fmt;
 
 use crate::call::{Answer, Call};
 use crate::calls::Calls;
-use crate::fault::{Fault, Faulty};
 use crate::model::Model;
 
 /// Every file that a group can have, and one that none has.
@@ -47,27 +46,21 @@ pub enum Difference {
 /// The model and a host that were given the same calls.
 #[derive(Clone)]
 pub struct Pair<H> {
-    /// The machine size that both were given.
-    pub machine: u64,
-    expected: Faulty,
+    model: Model,
     host: H,
     calls: u8,
     buffers: [Vec<u8>; 2],
 }
 
 impl<H: Calls> Pair<H> {
-    pub fn fresh(machine: u64, fault: Option<Fault>) -> Pair<H> {
-        Pair {
-            machine,
-            expected: Faulty::fresh(machine, fault),
-            host: H::fresh(machine),
-            calls: 0,
-            buffers: [vec![FILL; ROOM + MARGIN], vec![FILL; ROOM + MARGIN]],
-        }
+    /// A fresh model beside a host that is fresh, of the same machine.
+    pub fn beside(machine: u64, host: H) -> Pair<H> {
+        let buffers = [vec![FILL; ROOM + MARGIN], vec![FILL; ROOM + MARGIN]];
+        Pair { model: Model::fresh(machine), host, calls: 0, buffers }
     }
 
     pub fn model(&self) -> &Model {
-        &self.expected.model
+        &self.model
     }
 
     /// Makes a call on both and compares all that can be read after it.
@@ -79,7 +72,7 @@ impl<H: Calls> Pair<H> {
     /// Makes a call on both and compares the answers only.
     pub fn answer(&mut self, call: &Call) -> Result<(), Box<Difference>> {
         self.calls = self.calls.wrapping_add(1);
-        let expected = self.expected.answer(call, self.calls);
+        let expected = call.on(&mut self.model, self.calls);
         let stays = expected.number != 0 || call.is_question();
         let before = stays.then(|| self.host.memory().to_vec());
         let found = call.on(&mut self.host, self.calls);
@@ -129,7 +122,7 @@ impl<H: Calls> Pair<H> {
     ) -> bool {
         let [expected, found] = self.buffers.each_mut().map(|buffer| &mut buffer[..room + MARGIN]);
         let (mut expected_told, mut found_told) = ([u64::MAX], [u64::MAX]);
-        let expected_number = read(&self.expected, &mut expected[..room], &mut expected_told);
+        let expected_number = read(&self.model, &mut expected[..room], &mut expected_told);
         let found_number = read(&self.host, &mut found[..room], &mut found_told);
         let alike =
             expected_number == found_number && expected_told == found_told && expected == found;
@@ -141,7 +134,7 @@ impl<H: Calls> Pair<H> {
     }
 
     fn later(&mut self, question: Call) -> Box<Difference> {
-        let expected = self.expected.answer(&question, self.calls);
+        let expected = question.on(&mut self.model, self.calls);
         let found = question.on(&mut self.host, self.calls);
         Box::new(Difference::Later { question, expected, found })
     }
@@ -191,24 +184,10 @@ impl<H: Calls> Reads for H {
     }
 }
 
-impl Reads for Faulty {
-    fn read_file(&self, group: u64, file: &[u8], reply: &mut [u8], told: &mut [u64; 1]) -> u32 {
-        self.read(group, file, reply, told)
-    }
-
-    fn membership_line(&self, process: u64, reply: &mut [u8], told: &mut [u64; 1]) -> u32 {
-        self.membership(process, reply, told)
-    }
-}
-
-/// Makes the calls from a fresh tree. Answers the first call after which something differs, and
-/// what.
-pub fn replay<H: Calls>(
-    machine: u64,
-    calls: &[Call],
-    fault: Option<Fault>,
-) -> Option<(usize, Box<Difference>)> {
-    let mut pair = Pair::<H>::fresh(machine, fault);
+/// Makes the calls on the model and on a fresh host. Answers the first call after which something
+/// differs, and what.
+pub fn replay<H: Calls>(machine: u64, calls: &[Call], host: H) -> Option<(usize, Box<Difference>)> {
+    let mut pair = Pair::beside(machine, host);
     for (place, call) in calls.iter().enumerate() {
         if let Err(difference) = pair.step(call) {
             return Some((place, difference));
@@ -219,7 +198,7 @@ pub fn replay<H: Calls>(
 
 /// Panics unless the host answers as the model does, call by call: for tests.
 pub fn agree<H: Calls>(machine: u64, calls: &[Call]) {
-    if let Some((place, difference)) = replay::<H>(machine, calls, None) {
+    if let Some((place, difference)) = replay(machine, calls, H::fresh(machine)) {
         panic!("call {place}, {}: {difference}", calls[place]);
     }
 }

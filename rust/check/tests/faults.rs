@@ -2,7 +2,7 @@
 //! and its lists of calls come to every row of the tables.
 
 use shootspiral_check::explore::{Counts, Found, search};
-use shootspiral_check::fault::Fault;
+use shootspiral_check::fault::{Fault, Faulty};
 use shootspiral_check::model::Model;
 use shootspiral_check::{Call, Calls, Linked, checks};
 
@@ -10,7 +10,7 @@ const SEEDS: std::ops::Range<u64> = 1..101;
 const CALLS: usize = 300;
 
 fn find(fault: Fault) -> Found {
-    let found = search::<Linked>(SEEDS, CALLS, Some(fault), &mut Counts::new());
+    let found = search(SEEDS, CALLS, |machine| Faulty::new(machine, fault), &mut Counts::new());
     found.unwrap_or_else(|| panic!("not found: {fault}"))
 }
 
@@ -25,7 +25,7 @@ fn every_fault_is_found() {
 #[test]
 fn short_lists_are_found() {
     for &fault in &Fault::ALL[..20] {
-        let shortest = find(fault).shortest::<Linked>(Some(fault));
+        let shortest = find(fault).shortest(|machine| Faulty::new(machine, fault));
         assert!(shortest.calls.len() <= 12, "{fault}: {}", shortest.as_test());
     }
 }
@@ -33,7 +33,7 @@ fn short_lists_are_found() {
 #[test]
 fn every_row_is_reached() {
     let mut counts = Counts::new();
-    if let Some(found) = search::<Linked>(SEEDS, CALLS, None, &mut counts) {
+    if let Some(found) = search(SEEDS, CALLS, Linked::fresh, &mut counts) {
         panic!("{}\n{}", found.as_test(), found.difference);
     }
     assert_eq!(counts.missing(), [""; 0]);

@@ -48,7 +48,7 @@ pub(super) fn ancestor_not_asked(done: &mut Outcome) {
     let may = done.before.may_write(*user, moved.group);
     let refused = done.refused_by();
     if refused == Some(write_procs::MAY_NOT_WRITE_LOWEST) && may {
-        done.answer.number = done.after.write_procs(0, *group, line);
+        *done.number = done.after.write_procs(0, *group, line);
     }
     if !may && refused.is_none_or(|check| check == write_procs::HAS_SET) {
         done.refuse(13);
@@ -138,10 +138,8 @@ pub(super) fn period_reset(done: &mut Outcome) {
 }
 
 pub(super) fn consulted_one_short(done: &mut Outcome) {
-    if matches!(done.call, Call::Charge { .. } | Call::Fork { .. })
-        && done.answer.told[0] != NO_GROUP
-    {
-        done.answer.told[1] -= 1;
+    if matches!(done.call, Call::Charge { .. } | Call::Fork { .. }) && done.told[0] != NO_GROUP {
+        done.told[1] -= 1;
     }
 }
 
@@ -155,8 +153,8 @@ fn charged(done: &Outcome) -> Option<(u64, u64)> {
 
 pub(super) fn half_charged(done: &mut Outcome) {
     if let Some((group, pages)) = charged(done)
-        && done.answer.number == 12
-        && done.answer.told[0] != group
+        && *done.number == 12
+        && done.told[0] != group
     {
         done.after.group_mut(group).own_pages += pages;
     }
@@ -173,10 +171,10 @@ pub(super) fn compared_in_36_bits(done: &mut Outcome) {
     };
     let has_room =
         |&up: &u64| limit(up).is_none_or(|max| done.before.usage(up) % (1 << 24) + pages <= max);
-    if done.answer.number == 12 && chain.iter().all(has_room) {
+    if *done.number == 12 && chain.iter().all(has_room) {
         done.after.group_mut(group).own_pages += pages;
-        done.answer.number = 0;
-        done.answer.told[..2].copy_from_slice(&[NO_GROUP, chain.len() as u64]);
+        *done.number = 0;
+        *done.told = [NO_GROUP, chain.len() as u64];
     }
 }
 
@@ -188,7 +186,7 @@ pub(super) fn own_pages_in_22_bits(done: &mut Outcome) {
 
 pub(super) fn release_not_live_22(done: &mut Outcome) {
     if done.refused_by() == Some(release::NOT_LIVE) {
-        done.answer.number = 22;
+        *done.number = 22;
     }
 }
 
@@ -197,14 +195,14 @@ pub(super) fn population_in_8_bits(done: &mut Outcome) {
     if let Call::Fork { parent, process } = done.call
         && done.refused_by() == Some(fork::PIDS_LIMIT)
         && done.before.live_processes().count() == 255
-        && done.before.population(done.answer.told[0]) == 255
+        && done.before.population(done.told[0]) == 255
         && let Some(forked) = done.before.process(*parent)
     {
         done.after.admit(*process, forked.user);
         done.after.write_procs(0, forked.group, process.to_string().as_bytes());
-        done.answer.number = 0;
+        *done.number = 0;
         let consulted = done.before.chain(forked.group).len() as u64;
-        done.answer.told[..2].copy_from_slice(&[NO_GROUP, consulted]);
+        *done.told = [NO_GROUP, consulted];
     }
 }
 
