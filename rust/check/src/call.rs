@@ -64,6 +64,20 @@ impl Call {
         }
     }
 
+    /// The users that the call names.
+    pub fn users(&self) -> Vec<u32> {
+        match self {
+            Call::HandOver { user, owner, .. } => vec![*user, *owner],
+            Call::Make { user, .. }
+            | Call::Remove { user, .. }
+            | Call::WriteProcs { user, .. }
+            | Call::WriteSubtreeControl { user, .. }
+            | Call::WriteSetting { user, .. }
+            | Call::Admit { user, .. } => vec![*user],
+            _ => vec![],
+        }
+    }
+
     /// Whether the call changes no tree, whatever it answers.
     pub fn is_question(&self) -> bool {
         matches!(self, Call::Read { .. } | Call::Membership { .. } | Call::FirstBadWord { .. })

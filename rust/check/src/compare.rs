@@ -2,6 +2,7 @@
 //! answer, what was told, the reply buffer and the bytes after it, every file of every group and
 //! every membership line.
 
+use std::collections::BTreeSet;
 use std::fmt;
 
 use crate::call::{Answer, Call};
@@ -30,6 +31,12 @@ const SMALL_ROOM: usize = 48;
 const MARGIN: usize = 16;
 const FILL: u8 = 0xee;
 
+/// What a reader gets whose buffer is too short.
+const SHORT_BUFFER: u32 = 28;
+
+/// The most pages of one release.
+const MOST_PAGES: u64 = 1_048_576;
+
 /// What was found to differ after a call.
 #[derive(Clone, PartialEq, Eq)]
 pub enum Difference {
@@ -49,6 +56,8 @@ pub struct Pair<H> {
     model: Model,
     host: H,
     calls: u8,
+    /// All users that a call has named, and each one's neighbour.
+    users: BTreeSet<u32>,
     buffers: [Vec<u8>; 2],
 }
 
@@ -56,7 +65,7 @@ impl<H: Calls> Pair<H> {
     /// A fresh model beside a host that is fresh, of the same machine.
     pub fn beside(machine: u64, host: H) -> Pair<H> {
         let buffers = [vec![FILL; ROOM + MARGIN], vec![FILL; ROOM + MARGIN]];
-        Pair { model: Model::fresh(machine), host, calls: 0, buffers }
+        Pair { model: Model::fresh(machine), host, calls: 0, users: [0, 1].into(), buffers }
     }
 
     pub fn model(&self) -> &Model {
@@ -72,6 +81,7 @@ impl<H: Calls> Pair<H> {
     /// Makes a call on both and compares the answers only.
     pub fn answer(&mut self, call: &Call) -> Result<(), Box<Difference>> {
         self.calls = self.calls.wrapping_add(1);
+        self.users.extend(call.users().into_iter().flat_map(|user| [user, user.wrapping_add(1)]));
         let expected = call.on(&mut self.model, self.calls);
         let stays = expected.number != 0 || call.is_question();
         let before = stays.then(|| self.host.memory().to_vec());
@@ -123,6 +133,7 @@ impl<H: Calls> Pair<H> {
         let [expected, found] = self.buffers.each_mut().map(|buffer| &mut buffer[..room + MARGIN]);
         let (mut expected_told, mut found_told) = ([u64::MAX], [u64::MAX]);
         let expected_number = read(&self.model, &mut expected[..room], &mut expected_told);
+        assert_ne!(expected_number, SHORT_BUFFER, "a buffer of {room} bytes shows nothing");
         let found_number = read(&self.host, &mut found[..room], &mut found_told);
         let alike =
             expected_number == found_number && expected_told == found_told && expected == found;
@@ -140,31 +151,79 @@ impl<H: Calls> Pair<H> {
     }
 
     /// Calls that bring out what no file shows: owners, own pages, the users of processes. To be
-    /// made on a copy.
-    pub fn probes(&self) -> Vec<Call> {
+    /// made on a copy. Of own pages that take more than `releases` calls only so many are asked
+    /// for.
+    pub fn probes(&self, releases: u64) -> Vec<Call> {
         let mut probes = vec![];
-        let model = self.model();
-        for group in model.live_groups() {
-            let kept = model.group(group).expect("a live group");
-            for user in [kept.owner, kept.owner.wrapping_add(1).max(1)] {
-                probes.push(Call::WriteSubtreeControl { user, group, line: vec![] });
-            }
-            for pages in [kept.own_pages + 1, kept.own_pages] {
-                if (1..=1_048_576).contains(&pages) {
+        self.probe_owners(&mut probes);
+        self.probe_pages(releases, &mut probes);
+        self.probe_users(&mut probes);
+        probes
+    }
+
+    /// Everyone writes to every group. That user 0 may says nothing: a wrong owner in his place
+    /// shows if it is one of the others.
+    fn probe_owners(&self, probes: &mut Vec<Call>) {
+        for group in self.model.live_groups() {
+            let write = |&user| Call::WriteSubtreeControl { user, group, line: vec![] };
+            probes.extend(self.users.iter().map(write));
+        }
+    }
+
+    /// All but the rest is released as quickly as can be, then a page more than the rest, then it.
+    fn probe_pages(&self, releases: u64, probes: &mut Vec<Call>) {
+        for group in self.model.live_groups() {
+            let own = self.model.group(group).expect("a live group").own_pages;
+            let whole = (own.saturating_sub(1) / MOST_PAGES).min(releases);
+            probes.extend((0..whole).map(|_| Call::Release { group, pages: MOST_PAGES }));
+            let rest = own - whole * MOST_PAGES;
+            for pages in [rest + 1, rest] {
+                if (1..=MOST_PAGES).contains(&pages) {
                     probes.push(Call::Release { group, pages });
                 }
             }
         }
-        for process in model.live_processes() {
-            let kept = model.process(process).expect("a live process");
-            if kept.group != 0 {
-                let (user, group) = (kept.user, kept.group);
-                let line = process.to_string().into_bytes();
-                probes.push(Call::HandOver { user: 0, group, owner: user });
-                probes.push(Call::WriteProcs { user, group, line });
+    }
+
+    /// Each process is moved to where it is by its user, who is made the group's owner for that.
+    /// Those of the root are first moved out, for it cannot be handed over. Where user 0's are,
+    /// the others are refused.
+    fn probe_users(&self, probes: &mut Vec<Call>) {
+        let aside = self.aside(probes);
+        for group in self.model.live_groups() {
+            let Some(place) = (if group == 0 { aside } else { Some(group) }) else { continue };
+            let held: Vec<u64> = self.model.holds(group).collect();
+            let line = |process: &u64| process.to_string().into_bytes();
+            if group == 0 {
+                let out = |process| Call::WriteProcs { user: 0, group: place, line: line(process) };
+                probes.extend(held.iter().map(out));
+            }
+            let user_of = |process: &u64| self.model.process(*process).map(|kept| kept.user);
+            for &user in self.users.iter().filter(|&&user| user != 0) {
+                let asked = held.iter().filter(|p| [Some(0), Some(user)].contains(&user_of(p)));
+                let asked: Vec<Call> = asked
+                    .map(|process| Call::WriteProcs { user, group: place, line: line(process) })
+                    .collect();
+                if !asked.is_empty() {
+                    probes.push(Call::HandOver { user: 0, group: place, owner: user });
+                    probes.extend(asked);
+                }
             }
         }
-        probes
+    }
+
+    /// A group that the processes of the root can be moved to: a new one, or else one whose set is
+    /// empty.
+    fn aside(&self, probes: &mut Vec<Call>) -> Option<u64> {
+        self.model.holds(0).next()?;
+        match (1..=63).find(|&group| self.model.group(group).is_none()) {
+            Some(group) => {
+                probes.push(Call::Make { user: 0, parent: 0, group });
+                Some(group)
+            }
+            None => (1..=63)
+                .find(|&group| self.model.group(group).is_some_and(|kept| kept.set == [false; 3])),
+        }
     }
 }
 

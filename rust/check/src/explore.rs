@@ -17,6 +17,9 @@ use crate::shrink::shrink;
 /// kinds of what files do show are counted too.
 const PROBE_EVERY: usize = 16;
 
+/// How many releases of own pages there are then, but for the end of a list.
+const RELEASES: u64 = 40;
+
 /// How long to look for a shorter list.
 const PATIENCE: Duration = Duration::from_secs(30);
 
@@ -90,7 +93,8 @@ fn follow<H: Calls>(
             counts.values(pair.model());
             let mut copy = pair.clone();
             let before = calls.len();
-            for probe in copy.probes() {
+            let releases = if place == length { u64::MAX } else { RELEASES };
+            for probe in copy.probes(releases) {
                 calls.push(probe.clone());
                 if let Err(difference) = copy.answer(&probe) {
                     return found(calls, difference);
