@@ -37,6 +37,11 @@ pub struct Fault {
 impl Fault {
     /// Every fault; `--fault N` takes them from 1.
     pub const ALL: &[Fault] = table::FAULTS;
+
+    /// The fault with this text.
+    pub fn named(text: &str) -> Option<Fault> {
+        Fault::ALL.iter().find(|fault| fault.text == text).copied()
+    }
 }
 
 impl fmt::Display for Fault {

@@ -108,8 +108,11 @@ fn compare(task: &Task) -> bool {
     }
     print!("{counts}");
     let missing = counts.missing();
+    if !missing.is_empty() {
+        println!("never reached, or reached though the table says never:");
+    }
     for row in &missing {
-        println!("never reached: {row}");
+        println!("    {row}");
     }
     missing.is_empty()
 }

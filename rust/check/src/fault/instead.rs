@@ -180,11 +180,15 @@ fn ignore_last_byte(name: &mut [u8]) {
 }
 
 pub(super) fn last_byte_of_read_ignored(_: &Model, call: &mut Call) {
-    read_name(call).map(|name| ignore_last_byte(name));
+    if let Some(name) = read_name(call) {
+        ignore_last_byte(name);
+    }
 }
 
 pub(super) fn last_byte_of_setting_ignored(_: &Model, call: &mut Call) {
-    setting_name(call).map(|name| ignore_last_byte(name));
+    if let Some(name) = setting_name(call) {
+        ignore_last_byte(name);
+    }
 }
 
 /// A file by its place in [`FILES`].
