@@ -9,6 +9,8 @@ use crate::call::{Answer, Call};
 use crate::calls::Calls;
 use crate::model::Model;
 
+mod probes;
+
 /// Every file that a group can have, and one that none has.
 pub const FILES: [&[u8]; 11] = [
     b"cgroup.procs",
@@ -25,17 +27,15 @@ pub const FILES: [&[u8]; 11] = [
 ];
 
 /// More than the longest list of processes, with bytes to spare after it; more than any other text;
-/// and the bytes after such a buffer.
+/// and the bytes on either side of such a buffer.
 const ROOM: usize = 960;
 const SMALL_ROOM: usize = 48;
 const MARGIN: usize = 16;
 const FILL: u8 = 0xee;
+const UNTOLD: u64 = u64::MAX;
 
 /// What a reader gets whose buffer is too short.
 const SHORT_BUFFER: u32 = 28;
-
-/// The most pages of one release.
-const MOST_PAGES: u64 = 1_048_576;
 
 /// What was found to differ after a call.
 #[derive(Clone, PartialEq, Eq)]
@@ -64,7 +64,7 @@ pub struct Pair<H> {
 impl<H: Calls> Pair<H> {
     /// A fresh model beside a host that is fresh, of the same machine.
     pub fn beside(machine: u64, host: H) -> Pair<H> {
-        let buffers = [vec![FILL; ROOM + MARGIN], vec![FILL; ROOM + MARGIN]];
+        let buffers = [vec![FILL; ROOM + 2 * MARGIN], vec![FILL; ROOM + 2 * MARGIN]];
         Pair { model: Model::fresh(machine), host, calls: 0, users: [0, 1].into(), buffers }
     }
 
@@ -123,24 +123,30 @@ impl<H: Calls> Pair<H> {
         Ok(())
     }
 
-    /// Whether both answer a reading alike, every byte of the buffers and of the margins after them
-    /// included. A byte changed further on is found with the next list of processes.
+    /// Whether both answer a reading alike, every byte of the buffers and of their margins included,
+    /// and the words on either side of `told`. A byte changed further on is found with the next list
+    /// of processes.
     fn alike(
         &mut self,
         room: usize,
         read: impl Fn(&dyn Reads, &mut [u8], &mut [u64; 1]) -> u32,
     ) -> bool {
-        let [expected, found] = self.buffers.each_mut().map(|buffer| &mut buffer[..room + MARGIN]);
-        let (mut expected_told, mut found_told) = ([u64::MAX], [u64::MAX]);
-        let expected_number = read(&self.model, &mut expected[..room], &mut expected_told);
+        let whole = room + 2 * MARGIN;
+        let [expected, found] = self.buffers.each_mut().map(|buffer| &mut buffer[..whole]);
+        let (mut expected_told, mut found_told) = ([UNTOLD; 3], [UNTOLD; 3]);
+        let ask = |host: &dyn Reads, buffer: &mut [u8], told: &mut [u64; 3]| {
+            let told = told[1..].first_chunk_mut().expect("one word");
+            read(host, &mut buffer[MARGIN..MARGIN + room], told)
+        };
+        let expected_number = ask(&self.model, expected, &mut expected_told);
         assert_ne!(expected_number, SHORT_BUFFER, "a buffer of {room} bytes shows nothing");
-        let found_number = read(&self.host, &mut found[..room], &mut found_told);
+        let found_number = ask(&self.host, found, &mut found_told);
         let alike =
             expected_number == found_number && expected_told == found_told && expected == found;
         // What the model wrote is filled again; a host that wrote more was not alike.
-        let written = (expected_told[0] as usize).min(room - 1) + 1;
-        expected[..written].fill(FILL);
-        found[..written].fill(FILL);
+        let written = MARGIN + (expected_told[1] as usize).min(room);
+        expected[MARGIN..written].fill(FILL);
+        found[MARGIN..written].fill(FILL);
         alike
     }
 
@@ -148,82 +154,6 @@ impl<H: Calls> Pair<H> {
         let expected = question.on(&mut self.model, self.calls);
         let found = question.on(&mut self.host, self.calls);
         Box::new(Difference::Later { question, expected, found })
-    }
-
-    /// Calls that bring out what no file shows: owners, own pages, the users of processes. To be
-    /// made on a copy. Of own pages that take more than `releases` calls only so many are asked
-    /// for.
-    pub fn probes(&self, releases: u64) -> Vec<Call> {
-        let mut probes = vec![];
-        self.probe_owners(&mut probes);
-        self.probe_pages(releases, &mut probes);
-        self.probe_users(&mut probes);
-        probes
-    }
-
-    /// Everyone writes to every group. That user 0 may says nothing: a wrong owner in his place
-    /// shows if it is one of the others.
-    fn probe_owners(&self, probes: &mut Vec<Call>) {
-        for group in self.model.live_groups() {
-            let write = |&user| Call::WriteSubtreeControl { user, group, line: vec![] };
-            probes.extend(self.users.iter().map(write));
-        }
-    }
-
-    /// All but the rest is released as quickly as can be, then a page more than the rest, then it.
-    fn probe_pages(&self, releases: u64, probes: &mut Vec<Call>) {
-        for group in self.model.live_groups() {
-            let own = self.model.group(group).expect("a live group").own_pages;
-            let whole = (own.saturating_sub(1) / MOST_PAGES).min(releases);
-            probes.extend((0..whole).map(|_| Call::Release { group, pages: MOST_PAGES }));
-            let rest = own - whole * MOST_PAGES;
-            for pages in [rest + 1, rest] {
-                if (1..=MOST_PAGES).contains(&pages) {
-                    probes.push(Call::Release { group, pages });
-                }
-            }
-        }
-    }
-
-    /// Each process is moved to where it is by its user, who is made the group's owner for that.
-    /// Those of the root are first moved out, for it cannot be handed over. Where user 0's are,
-    /// the others are refused.
-    fn probe_users(&self, probes: &mut Vec<Call>) {
-        let aside = self.aside(probes);
-        for group in self.model.live_groups() {
-            let Some(place) = (if group == 0 { aside } else { Some(group) }) else { continue };
-            let held: Vec<u64> = self.model.holds(group).collect();
-            let line = |process: &u64| process.to_string().into_bytes();
-            if group == 0 {
-                let out = |process| Call::WriteProcs { user: 0, group: place, line: line(process) };
-                probes.extend(held.iter().map(out));
-            }
-            let user_of = |process: &u64| self.model.process(*process).map(|kept| kept.user);
-            for &user in self.users.iter().filter(|&&user| user != 0) {
-                let asked = held.iter().filter(|p| [Some(0), Some(user)].contains(&user_of(p)));
-                let asked: Vec<Call> = asked
-                    .map(|process| Call::WriteProcs { user, group: place, line: line(process) })
-                    .collect();
-                if !asked.is_empty() {
-                    probes.push(Call::HandOver { user: 0, group: place, owner: user });
-                    probes.extend(asked);
-                }
-            }
-        }
-    }
-
-    /// A group that the processes of the root can be moved to: a new one, or else one whose set is
-    /// empty.
-    fn aside(&self, probes: &mut Vec<Call>) -> Option<u64> {
-        self.model.holds(0).next()?;
-        match (1..=63).find(|&group| self.model.group(group).is_none()) {
-            Some(group) => {
-                probes.push(Call::Make { user: 0, parent: 0, group });
-                Some(group)
-            }
-            None => (1..=63)
-                .find(|&group| self.model.group(group).is_some_and(|kept| kept.set == [false; 3])),
-        }
     }
 }
 
