@@ -23,18 +23,24 @@ pub enum Call {
     FirstBadWord { line: Vec<u8> },
 }
 
-/// The number of bytes after a reply buffer, and of words after `told`, that no call may write.
+/// The bytes on either side of a reply buffer, and the words on either side of `told`, that no call
+/// may write.
 const MARGIN: usize = 16;
+const TOLD_MARGIN: usize = 2;
 const UNTOLD: u64 = 0x7e11_7e11_7e11_7e11;
 
-/// All that a call leaves in its caller's hands: the number, `told` and what stands after it, the
-/// reply buffer and what stands after it.
+/// All that a call leaves in its caller's hands: the number, `told` and the reply buffer, and what
+/// stands before and after them; and whether the line and the file name are as they were.
 #[derive(Clone, PartialEq, Eq)]
 pub struct Answer {
     pub number: u32,
-    pub told: [u64; 4],
-    pub reply: Vec<u8>,
+    /// Two words, and those after them.
+    pub told: [u64; 2 + TOLD_MARGIN],
+    before_told: [u64; TOLD_MARGIN],
+    /// The buffer between its margins; nothing where the call has none.
+    reply: Vec<u8>,
     fill: u8,
+    is_call_kept: bool,
 }
 
 impl Call {
@@ -58,6 +64,20 @@ impl Call {
         }
     }
 
+    /// The users that the call names.
+    pub fn users(&self) -> Vec<u32> {
+        match self {
+            Call::HandOver { user, owner, .. } => vec![*user, *owner],
+            Call::Make { user, .. }
+            | Call::Remove { user, .. }
+            | Call::WriteProcs { user, .. }
+            | Call::WriteSubtreeControl { user, .. }
+            | Call::WriteSetting { user, .. }
+            | Call::Admit { user, .. } => vec![*user],
+            _ => vec![],
+        }
+    }
+
     /// Whether the call changes no tree, whatever it answers.
     pub fn is_question(&self) -> bool {
         matches!(self, Call::Read { .. } | Call::Membership { .. } | Call::FirstBadWord { .. })
@@ -65,9 +85,24 @@ impl Call {
 
     /// Makes the call. `fill` picks the bytes that the reply buffer holds before.
     pub fn on<H: Calls>(&self, host: &mut H, fill: u8) -> Answer {
-        let mut told = [UNTOLD; 4];
-        let mut reply = vec![];
-        let number = match self {
+        let mut words = [UNTOLD; 2 + 2 * TOLD_MARGIN];
+        let (before, told) = words.split_first_chunk_mut().expect("so many words");
+        let mut reply = match self {
+            Call::Read { room, .. } | Call::Membership { room, .. } => filled(*room, fill),
+            _ => vec![],
+        };
+        let room = reply.len().saturating_sub(2 * MARGIN);
+        let buffer = reply.get_mut(MARGIN..MARGIN + room).unwrap_or_default();
+        // What is lent to the host is a copy, so that a change of it shows.
+        let lent = self.clone();
+        let number = lent.lend(host, told.first_chunk_mut().expect("two words"), buffer);
+        let (before_told, told) = (*before, *told.first_chunk().expect("so many words"));
+        Answer { number, told, before_told, reply, fill, is_call_kept: lent == *self }
+    }
+
+    /// Makes the call with the caller's own words and bytes.
+    pub fn lend<H: Calls>(&self, host: &mut H, told: &mut [u64; 2], reply: &mut [u8]) -> u32 {
+        match self {
             Call::Make { user, parent, group } => host.make(*user, *parent, *group),
             Call::Remove { user, group } => host.remove(*user, *group),
             Call::HandOver { user, group, owner } => host.hand_over(*user, *group, *owner),
@@ -79,34 +114,34 @@ impl Call {
                 host.write_setting(*user, *group, file, line)
             }
             Call::Admit { process, user } => host.admit(*process, *user),
-            Call::Fork { parent, process } => host.fork(*parent, *process, front(&mut told)),
+            Call::Fork { parent, process } => host.fork(*parent, *process, told),
             Call::Exit { process } => host.exit(*process),
-            Call::Charge { process, pages } => host.charge(*process, *pages, front(&mut told)),
+            Call::Charge { process, pages } => host.charge(*process, *pages, told),
             Call::Release { group, pages } => host.release(*group, *pages),
-            Call::Read { group, file, room } => {
-                reply = filled(*room, fill);
-                host.read(*group, file, &mut reply[..*room], front(&mut told))
+            Call::Read { .. } | Call::Membership { .. } | Call::FirstBadWord { .. } => {
+                self.ask(host, told, reply)
             }
-            Call::Membership { process, room } => {
-                reply = filled(*room, fill);
-                host.membership(*process, &mut reply[..*room], front(&mut told))
-            }
+        }
+    }
+
+    /// Asks a question with the caller's own words and bytes.
+    pub fn ask<H: Calls>(&self, host: &H, told: &mut [u64; 2], reply: &mut [u8]) -> u32 {
+        let first = told.first_chunk_mut().expect("one word");
+        match self {
+            Call::Read { group, file, .. } => host.read(*group, file, reply, first),
+            Call::Membership { process, .. } => host.membership(*process, reply, first),
             Call::FirstBadWord { line } => {
-                H::first_bad_word(line, front(&mut told));
+                host.question(line, told);
                 0
             }
-        };
-        Answer { number, told, reply, fill }
+            _ => panic!("{self} is not a question"),
+        }
     }
 }
 
-fn front<const N: usize>(told: &mut [u64; 4]) -> &mut [u64; N] {
-    told.first_chunk_mut().expect("no call tells more than two words")
-}
-
-/// A reply buffer and its margin before the call.
+/// A reply buffer between its margins, before the call.
 fn filled(room: usize, fill: u8) -> Vec<u8> {
-    (0..room + MARGIN).map(|place| filling(place, fill)).collect()
+    (0..room + 2 * MARGIN).map(|place| filling(place, fill)).collect()
 }
 
 /// Neighbours differ, and no byte is one that a text would hold.
@@ -172,7 +207,8 @@ impl fmt::Debug for Call {
     }
 }
 
-/// The number, then what was told, then the reply buffer up to the last byte that was touched.
+/// The number, then what was told, then the reply buffer up to the last byte that was touched; and
+/// what no call may touch, if it was.
 impl fmt::Display for Answer {
     fn fmt(&self, f: &mut fmt::Formatter<'_>) -> fmt::Result {
         write!(f, "{}", self.number)?;
@@ -180,12 +216,21 @@ impl fmt::Display for Answer {
         if told > 0 {
             write!(f, ", told {:?}", &self.told[..told])?;
         }
+        if self.before_told != [UNTOLD; TOLD_MARGIN] {
+            write!(f, ", told {:?} in front of that", self.before_told)?;
+        }
         if !self.reply.is_empty() {
-            let mut bytes = self.reply.iter().enumerate();
-            let touched = bytes.rposition(|(place, &byte)| byte != filling(place, self.fill));
-            let touched = &self.reply[..touched.map_or(0, |last| last + 1)];
-            let room = self.reply.len() - MARGIN;
+            let is_touched = |place: usize| self.reply[place] != filling(place, self.fill);
+            let end = (MARGIN..self.reply.len()).rfind(|&place| is_touched(place));
+            let touched = &self.reply[MARGIN..end.map_or(MARGIN, |last| last + 1)];
+            let room = self.reply.len() - 2 * MARGIN;
             write!(f, ", wrote {} to a buffer of {room}", Bytes(touched))?;
+            if (0..MARGIN).any(is_touched) {
+                write!(f, " and {} in front of it", Bytes(&self.reply[..MARGIN]))?;
+            }
+        }
+        if !self.is_call_kept {
+            f.write_str(", changed the line or the file name")?;
         }
         Ok(())
     }

@@ -4,7 +4,7 @@
 /// What `told` of a charge or a fork says where no cgroup is named.
 pub const NO_GROUP: u64 = u64::MAX;
 
-/// A host, proved or plain.
+/// A host, proved or plain or wrong.
 pub trait Calls: Clone {
     fn fresh(machine_pages: u64) -> Self;
     fn make(&mut self, user: u32, parent: u64, group: u64) -> u32;
@@ -21,6 +21,11 @@ pub trait Calls: Clone {
     fn read(&self, group: u64, file: &[u8], reply: &mut [u8], told: &mut [u64; 1]) -> u32;
     fn membership(&self, process: u64, reply: &mut [u8], told: &mut [u64; 1]) -> u32;
     fn first_bad_word(line: &[u8], told: &mut [u64; 2]);
+
+    /// The same, asked of a host at hand: a wrong one can answer it wrongly.
+    fn question(&self, line: &[u8], told: &mut [u64; 2]) {
+        Self::first_bad_word(line, told);
+    }
 
     /// Everything that the host keeps, for hosts that can show it: a refusal may not change it.
     fn memory(&self) -> &[u64] {

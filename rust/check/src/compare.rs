@@ -2,12 +2,14 @@
 //! answer, what was told, the reply buffer and the bytes after it, every file of every group and
 //! every membership line.
 
+use std::collections::BTreeSet;
 use std::fmt;
 
 use crate::call::{Answer, Call};
 use crate::calls::Calls;
-use crate::fault::{Fault, Faulty};
 use crate::model::Model;
+
+mod probes;
 
 /// Every file that a group can have, and one that none has.
 pub const FILES: [&[u8]; 11] = [
@@ -25,11 +27,15 @@ pub const FILES: [&[u8]; 11] = [
 ];
 
 /// More than the longest list of processes, with bytes to spare after it; more than any other text;
-/// and the bytes after such a buffer.
+/// and the bytes on either side of such a buffer.
 const ROOM: usize = 960;
 const SMALL_ROOM: usize = 48;
 const MARGIN: usize = 16;
 const FILL: u8 = 0xee;
+const UNTOLD: u64 = u64::MAX;
+
+/// What a reader gets whose buffer is too short.
+const SHORT_BUFFER: u32 = 28;
 
 /// What was found to differ after a call.
 #[derive(Clone, PartialEq, Eq)]
@@ -47,27 +53,23 @@ pub enum Difference {
 /// The model and a host that were given the same calls.
 #[derive(Clone)]
 pub struct Pair<H> {
-    /// The machine size that both were given.
-    pub machine: u64,
-    expected: Faulty,
+    model: Model,
     host: H,
     calls: u8,
+    /// All users that a call has named, and each one's neighbour.
+    users: BTreeSet<u32>,
     buffers: [Vec<u8>; 2],
 }
 
 impl<H: Calls> Pair<H> {
-    pub fn fresh(machine: u64, fault: Option<Fault>) -> Pair<H> {
-        Pair {
-            machine,
-            expected: Faulty::fresh(machine, fault),
-            host: H::fresh(machine),
-            calls: 0,
-            buffers: [vec![FILL; ROOM + MARGIN], vec![FILL; ROOM + MARGIN]],
-        }
+    /// A fresh model beside a host that is fresh, of the same machine.
+    pub fn beside(machine: u64, host: H) -> Pair<H> {
+        let buffers = [vec![FILL; ROOM + 2 * MARGIN], vec![FILL; ROOM + 2 * MARGIN]];
+        Pair { model: Model::fresh(machine), host, calls: 0, users: [0, 1].into(), buffers }
     }
 
     pub fn model(&self) -> &Model {
-        &self.expected.model
+        &self.model
     }
 
     /// Makes a call on both and compares all that can be read after it.
@@ -79,7 +81,8 @@ impl<H: Calls> Pair<H> {
     /// Makes a call on both and compares the answers only.
     pub fn answer(&mut self, call: &Call) -> Result<(), Box<Difference>> {
         self.calls = self.calls.wrapping_add(1);
-        let expected = self.expected.answer(call, self.calls);
+        self.users.extend(call.users().into_iter().flat_map(|user| [user, user.wrapping_add(1)]));
+        let expected = call.on(&mut self.model, self.calls);
         let stays = expected.number != 0 || call.is_question();
         let before = stays.then(|| self.host.memory().to_vec());
         let found = call.on(&mut self.host, self.calls);
@@ -120,58 +123,37 @@ impl<H: Calls> Pair<H> {
         Ok(())
     }
 
-    /// Whether both answer a reading alike, every byte of the buffers and of the margins after them
-    /// included. A byte changed further on is found with the next list of processes.
+    /// Whether both answer a reading alike, every byte of the buffers and of their margins included,
+    /// and the words on either side of `told`. A byte changed further on is found with the next list
+    /// of processes.
     fn alike(
         &mut self,
         room: usize,
         read: impl Fn(&dyn Reads, &mut [u8], &mut [u64; 1]) -> u32,
     ) -> bool {
-        let [expected, found] = self.buffers.each_mut().map(|buffer| &mut buffer[..room + MARGIN]);
-        let (mut expected_told, mut found_told) = ([u64::MAX], [u64::MAX]);
-        let expected_number = read(&self.expected, &mut expected[..room], &mut expected_told);
-        let found_number = read(&self.host, &mut found[..room], &mut found_told);
+        let whole = room + 2 * MARGIN;
+        let [expected, found] = self.buffers.each_mut().map(|buffer| &mut buffer[..whole]);
+        let (mut expected_told, mut found_told) = ([UNTOLD; 3], [UNTOLD; 3]);
+        let ask = |host: &dyn Reads, buffer: &mut [u8], told: &mut [u64; 3]| {
+            let told = told[1..].first_chunk_mut().expect("one word");
+            read(host, &mut buffer[MARGIN..MARGIN + room], told)
+        };
+        let expected_number = ask(&self.model, expected, &mut expected_told);
+        assert_ne!(expected_number, SHORT_BUFFER, "a buffer of {room} bytes shows nothing");
+        let found_number = ask(&self.host, found, &mut found_told);
         let alike =
             expected_number == found_number && expected_told == found_told && expected == found;
         // What the model wrote is filled again; a host that wrote more was not alike.
-        let written = (expected_told[0] as usize).min(room - 1) + 1;
-        expected[..written].fill(FILL);
-        found[..written].fill(FILL);
+        let written = MARGIN + (expected_told[1] as usize).min(room);
+        expected[MARGIN..written].fill(FILL);
+        found[MARGIN..written].fill(FILL);
         alike
     }
 
     fn later(&mut self, question: Call) -> Box<Difference> {
-        let expected = self.expected.answer(&question, self.calls);
+        let expected = question.on(&mut self.model, self.calls);
         let found = question.on(&mut self.host, self.calls);
         Box::new(Difference::Later { question, expected, found })
-    }
-
-    /// Calls that bring out what no file shows: owners, own pages, the users of processes. To be
-    /// made on a copy.
-    pub fn probes(&self) -> Vec<Call> {
-        let mut probes = vec![];
-        let model = self.model();
-        for group in model.live_groups() {
-            let kept = model.group(group).expect("a live group");
-            for user in [kept.owner, kept.owner.wrapping_add(1).max(1)] {
-                probes.push(Call::WriteSubtreeControl { user, group, line: vec![] });
-            }
-            for pages in [kept.own_pages + 1, kept.own_pages] {
-                if (1..=1_048_576).contains(&pages) {
-                    probes.push(Call::Release { group, pages });
-                }
-            }
-        }
-        for process in model.live_processes() {
-            let kept = model.process(process).expect("a live process");
-            if kept.group != 0 {
-                let (user, group) = (kept.user, kept.group);
-                let line = process.to_string().into_bytes();
-                probes.push(Call::HandOver { user: 0, group, owner: user });
-                probes.push(Call::WriteProcs { user, group, line });
-            }
-        }
-        probes
     }
 }
 
@@ -191,24 +173,10 @@ impl<H: Calls> Reads for H {
     }
 }
 
-impl Reads for Faulty {
-    fn read_file(&self, group: u64, file: &[u8], reply: &mut [u8], told: &mut [u64; 1]) -> u32 {
-        self.read(group, file, reply, told)
-    }
-
-    fn membership_line(&self, process: u64, reply: &mut [u8], told: &mut [u64; 1]) -> u32 {
-        self.membership(process, reply, told)
-    }
-}
-
-/// Makes the calls from a fresh tree. Answers the first call after which something differs, and
-/// what.
-pub fn replay<H: Calls>(
-    machine: u64,
-    calls: &[Call],
-    fault: Option<Fault>,
-) -> Option<(usize, Box<Difference>)> {
-    let mut pair = Pair::<H>::fresh(machine, fault);
+/// Makes the calls on the model and on a fresh host. Answers the first call after which something
+/// differs, and what.
+pub fn replay<H: Calls>(machine: u64, calls: &[Call], host: H) -> Option<(usize, Box<Difference>)> {
+    let mut pair = Pair::beside(machine, host);
     for (place, call) in calls.iter().enumerate() {
         if let Err(difference) = pair.step(call) {
             return Some((place, difference));
@@ -219,7 +187,7 @@ pub fn replay<H: Calls>(
 
 /// Panics unless the host answers as the model does, call by call: for tests.
 pub fn agree<H: Calls>(machine: u64, calls: &[Call]) {
-    if let Some((place, difference)) = replay::<H>(machine, calls, None) {
+    if let Some((place, difference)) = replay(machine, calls, H::fresh(machine)) {
         panic!("call {place}, {}: {difference}", calls[place]);
     }
 }

@@ -8,7 +8,6 @@ use crate::calls::Calls;
 use crate::compare::{Difference, Pair, replay};
 pub use crate::counts::Counts;
 use crate::crossed;
-use crate::fault::Fault;
 use crate::generate::Generator;
 use crate::heap;
 use crate::model::Model;
@@ -17,6 +16,9 @@ use crate::shrink::shrink;
 /// What no file shows is asked for after every so many calls, and at the end of a list; then the
 /// kinds of what files do show are counted too.
 const PROBE_EVERY: usize = 16;
+
+/// How many releases of own pages there are then, but for the end of a list.
+const RELEASES: u64 = 40;
 
 /// How long to look for a shorter list.
 const PATIENCE: Duration = Duration::from_secs(30);
@@ -30,53 +32,54 @@ pub struct Found {
     pub difference: Box<Difference>,
 }
 
-/// Compares the lists of all seeds, then those that have none. Answers the first list after which
-/// something differs.
+/// Compares the lists of all seeds, then those that have none, with a host that is made by `fresh`
+/// from the machine size. Answers the first list after which something differs.
 pub fn search<H: Calls>(
     mut seeds: Range<u64>,
     length: usize,
-    fault: Option<Fault>,
+    fresh: impl Fn(u64) -> H,
     counts: &mut Counts,
 ) -> Option<Found> {
     seeds
-        .find_map(|seed| explore::<H>(seed, length, fault, counts))
-        .or_else(|| given::<H>("crossed", crossed::MACHINE, crossed::calls(), fault, counts))
-        .or_else(|| given::<H>("heap", heap::MACHINE, heap::calls(), fault, counts))
+        .find_map(|seed| explore(seed, length, &fresh, counts))
+        .or_else(|| given("crossed", crossed::MACHINE, crossed::calls(), &fresh, counts))
+        .or_else(|| given("heap", heap::MACHINE, heap::calls(), &fresh, counts))
 }
 
 fn given<H: Calls>(
     name: &str,
     machine: u64,
     calls: Vec<Call>,
-    fault: Option<Fault>,
+    fresh: impl Fn(u64) -> H,
     counts: &mut Counts,
 ) -> Option<Found> {
-    let pair = Pair::<H>::fresh(machine, fault);
     let length = calls.len();
     let mut calls = calls.into_iter();
-    follow(name, pair, length, |_| calls.next().expect("so many"), counts)
+    follow(name, machine, fresh(machine), length, |_| calls.next().expect("so many"), counts)
 }
 
 /// Makes up and compares a list of calls. Answers the list if something differs.
 pub fn explore<H: Calls>(
     seed: u64,
     length: usize,
-    fault: Option<Fault>,
+    fresh: impl Fn(u64) -> H,
     counts: &mut Counts,
 ) -> Option<Found> {
     let mut generator = Generator::new(seed);
-    let pair = Pair::<H>::fresh(generator.machine(), fault);
-    follow(&format!("seed_{seed}"), pair, length, |model| generator.next(model), counts)
+    let machine = generator.machine();
+    let (name, host) = (format!("seed_{seed}"), fresh(machine));
+    follow(&name, machine, host, length, |model| generator.next(model), counts)
 }
 
 fn follow<H: Calls>(
     name: &str,
-    mut pair: Pair<H>,
+    machine: u64,
+    host: H,
     length: usize,
     mut next: impl FnMut(&Model) -> Call,
     counts: &mut Counts,
 ) -> Option<Found> {
-    let machine = pair.machine;
+    let mut pair = Pair::beside(machine, host);
     let mut calls = vec![];
     let found = |calls, difference| Some(Found { name: name.into(), machine, calls, difference });
     for place in 1..=length {
@@ -90,7 +93,8 @@ fn follow<H: Calls>(
             counts.values(pair.model());
             let mut copy = pair.clone();
             let before = calls.len();
-            for probe in copy.probes() {
+            let releases = if place == length { u64::MAX } else { RELEASES };
+            for probe in copy.probes(releases) {
                 calls.push(probe.clone());
                 if let Err(difference) = copy.answer(&probe) {
                     return found(calls, difference);
@@ -104,19 +108,16 @@ fn follow<H: Calls>(
 
 impl Found {
     /// The shortest list that still shows a difference, not always the same one.
-    pub fn shortest<H: Calls>(self, fault: Option<Fault>) -> Found {
-        self.shortest_within::<H>(PATIENCE, fault)
+    pub fn shortest<H: Calls>(self, fresh: impl Fn(u64) -> H) -> Found {
+        self.shortest_within(PATIENCE, fresh)
     }
 
     /// The same for those who cannot wait.
-    pub fn shortest_within<H: Calls>(self, patience: Duration, fault: Option<Fault>) -> Found {
+    pub fn shortest_within<H: Calls>(self, patience: Duration, fresh: impl Fn(u64) -> H) -> Found {
         let Found { name, machine, calls, difference } = self;
-        let fails = |calls: &[Call]| replay::<H>(machine, calls, fault).map(|(place, _)| place + 1);
-        let calls = shrink(calls, patience, fails);
-        let difference = match replay::<H>(machine, &calls, fault) {
-            Some((_, difference)) => difference,
-            None => difference,
-        };
+        let replay = |calls: &[Call]| replay(machine, calls, fresh(machine));
+        let calls = shrink(calls, patience, |calls| replay(calls).map(|(place, _)| place + 1));
+        let difference = replay(&calls).map_or(difference, |(_, difference)| difference);
         Found { name, machine, calls, difference }
     }
 

@@ -5,7 +5,7 @@
 use std::collections::BTreeMap;
 use std::fmt;
 
-use crate::call::{Answer, Call};
+use crate::call::Call;
 use crate::calls::Calls;
 use crate::checks::Check;
 use crate::model::{Model, Settings};
@@ -24,7 +24,7 @@ enum Slip {
     Outcome(fn(&mut Outcome)),
     /// It shows a reader something else. Answers the number that the reader gets.
     Reader(fn(&mut Reading) -> u32),
-    /// It asks the second check before the first.
+    /// Of a call that can change the tree it makes the second check before the first.
     Swapped(&'static Check, &'static Check),
 }
 
@@ -37,6 +37,11 @@ pub struct Fault {
 impl Fault {
     /// Every fault; `--fault N` takes them from 1.
     pub const ALL: &[Fault] = table::FAULTS;
+
+    /// The fault with this text.
+    pub fn named(text: &str) -> Option<Fault> {
+        Fault::ALL.iter().find(|fault| fault.text == text).copied()
+    }
 }
 
 impl fmt::Display for Fault {
@@ -50,14 +55,15 @@ struct Outcome<'a> {
     before: &'a Model,
     call: &'a Call,
     after: &'a mut Model,
-    answer: &'a mut Answer,
+    number: &'a mut u32,
+    told: &'a mut [u64; 2],
     /// The settings of groups that were removed, for a host that does not forget them.
     removed: &'a mut BTreeMap<u64, Settings>,
 }
 
 impl Outcome<'_> {
     fn is_success(&self) -> bool {
-        self.answer.number == 0
+        *self.number == 0
     }
 
     /// The check that refused the call.
@@ -68,95 +74,161 @@ impl Outcome<'_> {
     /// Refuses the call after all.
     fn refuse(&mut self, number: u32) {
         *self.after = self.before.clone();
-        self.answer.number = number;
+        *self.number = number;
     }
-}
-
-/// What a reader asks for.
-#[derive(Clone, Copy)]
-enum Asked<'a> {
-    File(u64, &'a [u8]),
-    Membership(u64),
 }
 
 /// A reader's question that the model has answered.
 struct Reading<'a> {
     model: &'a Model,
-    asked: Asked<'a>,
+    /// A read or a membership line.
+    call: &'a Call,
     number: u32,
     reply: &'a mut [u8],
-    told: &'a mut [u64; 1],
+    told: &'a mut [u64; 2],
 }
 
-/// The model, right or wrong.
+/// A wrong host. It has no words to show: what a refusal of it leaves behind must be found by
+/// reading and asking.
 #[derive(Clone)]
 pub struct Faulty {
-    pub model: Model,
-    slip: Option<Slip>,
+    model: Model,
+    slip: Slip,
     removed: BTreeMap<u64, Settings>,
 }
 
 impl Faulty {
-    pub fn fresh(machine: u64, fault: Option<Fault>) -> Faulty {
-        let slip = fault.map(|fault| fault.slip);
-        Faulty { model: Model::new(machine), slip, removed: BTreeMap::new() }
+    pub fn new(machine: u64, fault: Fault) -> Faulty {
+        Faulty { model: Model::fresh(machine), slip: fault.slip, removed: BTreeMap::new() }
     }
 
-    /// Makes the call. `fill` picks the bytes that the reply buffer holds before.
-    pub fn answer(&mut self, call: &Call, fill: u8) -> Answer {
+    /// Makes a call that can change the tree.
+    fn make_call(&mut self, mut call: Call, told: &mut [u64; 2]) -> u32 {
         match self.slip {
-            None => call.on(&mut self.model, fill),
-            Some(Slip::Instead(change)) => {
-                let mut call = call.clone();
+            Slip::Instead(change) => {
                 change(&self.model, &mut call);
-                call.on(&mut self.model, fill)
+                call.lend(&mut self.model, told, &mut [])
             }
-            Some(Slip::Outcome(change)) => {
+            Slip::Outcome(change) => {
                 let before = self.model.clone();
-                let mut answer = call.on(&mut self.model, fill);
-                let (after, removed) = (&mut self.model, &mut self.removed);
-                change(&mut Outcome { before: &before, call, after, answer: &mut answer, removed });
-                answer
+                let mut number = call.lend(&mut self.model, told, &mut []);
+                change(&mut Outcome {
+                    before: &before,
+                    call: &call,
+                    after: &mut self.model,
+                    number: &mut number,
+                    told,
+                    removed: &mut self.removed,
+                });
+                number
             }
-            Some(Slip::Swapped(first, second)) => {
-                let held = self.model.held(call);
-                let mut answer = call.on(&mut self.model, fill);
-                if held.first() == Some(&first) && held.contains(&second) {
-                    answer.number = second.number();
-                }
-                answer
+            Slip::Swapped(first, second) => {
+                let held = self.model.held(&call);
+                let number = call.lend(&mut self.model, told, &mut []);
+                let is_swapped = held.first() == Some(&first) && held.contains(&second);
+                if is_swapped { second.number() } else { number }
             }
-            Some(Slip::Reader(_)) => {
-                let mut answer = call.on(&mut self.model, fill);
-                let (asked, room) = match call {
-                    Call::Read { group, file, room } => (Asked::File(*group, file), *room),
-                    Call::Membership { process, room } => (Asked::Membership(*process), *room),
-                    _ => return answer,
-                };
-                let told = answer.told.first_chunk_mut().expect("four words");
-                answer.number = self.show(asked, answer.number, &mut answer.reply[..room], told);
-                answer
-            }
+            Slip::Reader(_) => call.lend(&mut self.model, told, &mut []),
         }
     }
 
-    pub fn read(&self, group: u64, file: &[u8], reply: &mut [u8], told: &mut [u64; 1]) -> u32 {
-        let number = self.model.read(group, file, reply, told);
-        self.show(Asked::File(group, file), number, reply, told)
+    /// The number of a call that tells nothing.
+    fn number(&mut self, call: Call) -> u32 {
+        self.make_call(call, &mut [0; 2])
     }
 
-    pub fn membership(&self, process: u64, reply: &mut [u8], told: &mut [u64; 1]) -> u32 {
-        let number = self.model.membership(process, reply, told);
-        self.show(Asked::Membership(process), number, reply, told)
-    }
-
-    /// Changes what a reader was shown, if that is the fault.
-    fn show(&self, asked: Asked, number: u32, reply: &mut [u8], told: &mut [u64; 1]) -> u32 {
+    /// Asks a question.
+    fn ask(&self, mut call: Call, told: &mut [u64; 2], reply: &mut [u8]) -> u32 {
         match self.slip {
-            Some(Slip::Reader(change)) => {
-                change(&mut Reading { model: &self.model, asked, number, reply, told })
+            Slip::Instead(change) => {
+                change(&self.model, &mut call);
+                let room = match call {
+                    Call::Read { room, .. } | Call::Membership { room, .. } => room,
+                    _ => 0,
+                };
+                call.ask(&self.model, told, &mut reply[..room])
             }
-            _ => number,
+            Slip::Reader(change) => {
+                let number = call.ask(&self.model, told, reply);
+                change(&mut Reading { model: &self.model, call: &call, number, reply, told })
+            }
+            Slip::Outcome(_) | Slip::Swapped(..) => call.ask(&self.model, told, reply),
         }
+    }
+
+    /// Asks a question that tells one word.
+    fn show(&self, call: Call, told: &mut [u64; 1], reply: &mut [u8]) -> u32 {
+        let mut words = [told[0], 0];
+        let number = self.ask(call, &mut words, reply);
+        *told = [words[0]];
+        number
+    }
+}
+
+impl Calls for Faulty {
+    /// A host that takes no call for another yet.
+    fn fresh(machine_pages: u64) -> Faulty {
+        Faulty::new(machine_pages, Fault { text: "none", slip: Slip::Instead(|_, _| {}) })
+    }
+
+    fn make(&mut self, user: u32, parent: u64, group: u64) -> u32 {
+        self.number(Call::Make { user, parent, group })
+    }
+
+    fn remove(&mut self, user: u32, group: u64) -> u32 {
+        self.number(Call::Remove { user, group })
+    }
+
+    fn hand_over(&mut self, user: u32, group: u64, owner: u32) -> u32 {
+        self.number(Call::HandOver { user, group, owner })
+    }
+
+    fn write_procs(&mut self, user: u32, group: u64, line: &[u8]) -> u32 {
+        self.number(Call::WriteProcs { user, group, line: line.to_vec() })
+    }
+
+    fn write_subtree_control(&mut self, user: u32, group: u64, line: &[u8]) -> u32 {
+        self.number(Call::WriteSubtreeControl { user, group, line: line.to_vec() })
+    }
+
+    fn write_setting(&mut self, user: u32, group: u64, file: &[u8], line: &[u8]) -> u32 {
+        let (file, line) = (file.to_vec(), line.to_vec());
+        self.number(Call::WriteSetting { user, group, file, line })
+    }
+
+    fn admit(&mut self, process: u64, user: u32) -> u32 {
+        self.number(Call::Admit { process, user })
+    }
+
+    fn fork(&mut self, parent: u64, process: u64, told: &mut [u64; 2]) -> u32 {
+        self.make_call(Call::Fork { parent, process }, told)
+    }
+
+    fn exit(&mut self, process: u64) -> u32 {
+        self.number(Call::Exit { process })
+    }
+
+    fn charge(&mut self, process: u64, pages: u64, told: &mut [u64; 2]) -> u32 {
+        self.make_call(Call::Charge { process, pages }, told)
+    }
+
+    fn release(&mut self, group: u64, pages: u64) -> u32 {
+        self.number(Call::Release { group, pages })
+    }
+
+    fn read(&self, group: u64, file: &[u8], reply: &mut [u8], told: &mut [u64; 1]) -> u32 {
+        self.show(Call::Read { group, file: file.to_vec(), room: reply.len() }, told, reply)
+    }
+
+    fn membership(&self, process: u64, reply: &mut [u8], told: &mut [u64; 1]) -> u32 {
+        self.show(Call::Membership { process, room: reply.len() }, told, reply)
+    }
+
+    fn first_bad_word(line: &[u8], told: &mut [u64; 2]) {
+        Model::first_bad_word(line, told);
+    }
+
+    fn question(&self, line: &[u8], told: &mut [u64; 2]) {
+        self.ask(Call::FirstBadWord { line: line.to_vec() }, told, &mut []);
     }
 }

@@ -6,9 +6,9 @@ use std::env;
 use std::process::ExitCode;
 use std::time::{Duration, Instant};
 
-use shootspiral_check::Linked;
 use shootspiral_check::explore::{Counts, Found, search};
-use shootspiral_check::fault::Fault;
+use shootspiral_check::fault::{Fault, Faulty};
+use shootspiral_check::{Calls, Linked};
 
 const USAGE: &str = "\
 shootspiral-check [SEEDS [CALLS [FIRST]]] [OPTION...]
@@ -20,7 +20,7 @@ shootspiral-check [SEEDS [CALLS [FIRST]]] [OPTION...]
   --long      5000 seeds of 400 calls: two million calls
   --reached   print how often the lists came to each check of each call, to pairs of checks
               that both hold and to each kind of what is read; fail where they never did
-  --fault N   put fault N around the model, which the comparison then finds
+  --fault N   compare a wrong host with the model, which has fault N and is then found
   --faults    find every fault, one after the other
   --help      this text, and the faults";
 
@@ -83,9 +83,9 @@ fn parse(words: &[String]) -> Option<Task> {
 }
 
 impl Task {
-    fn search(&self, fault: Option<Fault>, counts: &mut Counts) -> Option<Found> {
+    fn search<H: Calls>(&self, fresh: impl Fn(u64) -> H, counts: &mut Counts) -> Option<Found> {
         let seeds = self.first..self.first.saturating_add(self.seeds);
-        search::<Linked>(seeds, self.calls, fault, counts)
+        search(seeds, self.calls, fresh, counts)
     }
 }
 
@@ -93,8 +93,9 @@ impl Task {
 fn compare(task: &Task) -> bool {
     let start = Instant::now();
     let mut counts = Counts::new();
-    if let Some(found) = task.search(None, &mut counts) {
-        report(found, None, counts.all());
+    if let Some(found) = task.search(Linked::fresh, &mut counts) {
+        report(&found, counts.all());
+        shorter(&found.shortest(Linked::fresh));
         return false;
     }
     let (calls, refused) = (counts.all(), counts.refused());
@@ -107,8 +108,11 @@ fn compare(task: &Task) -> bool {
     }
     print!("{counts}");
     let missing = counts.missing();
+    if !missing.is_empty() {
+        println!("never reached, or reached though the table says never:");
+    }
     for row in &missing {
-        println!("never reached: {row}");
+        println!("    {row}");
     }
     missing.is_empty()
 }
@@ -120,8 +124,12 @@ fn find(task: &Task) -> bool {
         let fault = Fault::ALL[number - 1];
         let mut counts = Counts::new();
         println!("fault {number}: {fault}");
-        match task.search(Some(fault), &mut counts) {
-            Some(found) => report(found, Some(fault), counts.all()),
+        let wrong = |machine| Faulty::new(machine, fault);
+        match task.search(wrong, &mut counts) {
+            Some(found) => {
+                report(&found, counts.all());
+                shorter(&found.shortest_within(PATIENCE, wrong));
+            }
             None => {
                 println!("not found in {} calls\n", counts.all());
                 missed += 1;
@@ -134,13 +142,12 @@ fn find(task: &Task) -> bool {
     missed == 0
 }
 
-fn report(found: Found, fault: Option<Fault>, calls: u64) {
+fn report(found: &Found, calls: u64) {
     println!("{} differs after {} of its calls", found.name, found.calls.len());
     println!("({calls} calls in all)");
-    let found = match fault {
-        Some(_) => found.shortest_within::<Linked>(PATIENCE, fault),
-        None => found.shortest::<Linked>(fault),
-    };
+}
+
+fn shorter(found: &Found) {
     println!("shortest list found, {} calls:\n\n{}", found.calls.len(), found.as_test());
     println!("at the last call, {}\n", found.difference);
 }

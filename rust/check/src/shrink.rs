@@ -173,6 +173,9 @@ fn plainer(call: &Call) -> Vec<Call> {
     plainer
 }
 
+/// So many bytes or pieces of a line are left out, one at a time.
+const PIECES: usize = 256;
+
 /// Lines to try in a line's place: the plainest figures, then this one with bytes left out.
 fn shorter(line: &[u8]) -> Vec<Vec<u8>> {
     let length = line.len();
@@ -183,8 +186,10 @@ fn shorter(line: &[u8]) -> Vec<Vec<u8>> {
         }
     }
     let halves = [(0, length), (0, length / 2), (length / 2, length)];
-    let singles = (0..length).map(|place| (place, place + 1));
-    for (first, end) in halves.into_iter().chain(singles) {
+    // Of a line that is longer than any that is taken, a piece at a time.
+    let piece = length.div_ceil(PIECES).max(1);
+    let pieces = (0..length).step_by(piece).map(|place| (place, length.min(place + piece)));
+    for (first, end) in halves.into_iter().chain(pieces) {
         shorter.push([&line[..first], &line[end..]].concat());
     }
     shorter

@@ -1,42 +1,43 @@
-//! The comparison finds every fault that can be put around the model, and none where there is none;
-//! and its lists of calls come to every row of the tables.
+//! What `scripts/compare` does not look at: that a wrong host without a fault is a right one, how
+//! short a list is that shows a fault, and that the model's checks are those of the table. That
+//! every fault is found and every row reached is the script's to say.
 
-use shootspiral_check::explore::{Counts, Found, search};
-use shootspiral_check::fault::Fault;
+use shootspiral_check::explore::{Counts, explore, search};
+use shootspiral_check::fault::{Fault, Faulty};
 use shootspiral_check::model::Model;
-use shootspiral_check::{Call, Calls, Linked, checks};
+use shootspiral_check::{Call, Calls, checks};
 
 const SEEDS: std::ops::Range<u64> = 1..101;
 const CALLS: usize = 300;
 
-fn find(fault: Fault) -> Found {
-    let found = search::<Linked>(SEEDS, CALLS, Some(fault), &mut Counts::new());
-    found.unwrap_or_else(|| panic!("not found: {fault}"))
-}
-
+/// So that what is found is the fault, and not the host around it.
 #[test]
-fn every_fault_is_found() {
-    for &fault in Fault::ALL {
-        find(fault);
+fn without_a_fault_nothing_is_found() {
+    for seed in 101..111 {
+        let found = explore(seed, CALLS, Faulty::fresh, &mut Counts::new());
+        assert!(found.is_none(), "seed {seed}");
     }
 }
 
-/// Faults that a handful of calls shows are shown by no more.
+/// Of each kind of fault one that a handful of calls shows.
+const SHORTLY_SHOWN: [(&str, usize); 6] = [
+    ("a number with leading zeros is malformed", 2),
+    ("a charge refused further up leaves pages behind", 8),
+    ("a move asks source and target, not their common ancestor", 8),
+    ("a buffer that is too short is filled all the same", 3),
+    ("a setting asks for the user before its controller", 2),
+    ("fork in the root makes the child user 0's", 7),
+];
+
 #[test]
 fn short_lists_are_found() {
-    for &fault in &Fault::ALL[..20] {
-        let shortest = find(fault).shortest::<Linked>(Some(fault));
-        assert!(shortest.calls.len() <= 12, "{fault}: {}", shortest.as_test());
+    for (text, most) in SHORTLY_SHOWN {
+        let fault = Fault::named(text).unwrap_or_else(|| panic!("no fault: {text}"));
+        let wrong = |machine| Faulty::new(machine, fault);
+        let found = search(SEEDS, CALLS, wrong, &mut Counts::new());
+        let shortest = found.unwrap_or_else(|| panic!("not found: {fault}")).shortest(wrong);
+        assert!(shortest.calls.len() <= most, "{fault}: {}", shortest.as_test());
     }
-}
-
-#[test]
-fn every_row_is_reached() {
-    let mut counts = Counts::new();
-    if let Some(found) = search::<Linked>(SEEDS, CALLS, None, &mut counts) {
-        panic!("{}\n{}", found.as_test(), found.difference);
-    }
-    assert_eq!(counts.missing(), [""; 0]);
 }
 
 /// The model makes the checks of each call in the order of the table.

@@ -1,6 +1,7 @@
 //! Faults of a host that takes a call for another.
 
 use crate::call::Call;
+use crate::compare::FILES;
 use crate::model::{CONTROLLERS, Model, control_word, number, words};
 
 /// The line with every word changed, spaces and the final newline as they were.
@@ -121,5 +122,88 @@ pub(super) fn dead_is_root(model: &Model, call: &mut Call) {
 pub(super) fn question_cut_short(_: &Model, call: &mut Call) {
     if let Call::FirstBadWord { line } = call {
         line.truncate(4096);
+    }
+}
+
+pub(super) fn question_cut_at_16_384(_: &Model, call: &mut Call) {
+    if let Call::FirstBadWord { line } = call {
+        line.truncate(16_384);
+    }
+}
+
+pub(super) fn sixteen_words(_: &Model, call: &mut Call) {
+    if let Call::WriteSubtreeControl { line, .. } = call
+        && line.len() <= 128
+        && let Some(heeded) = words(line).get(..16)
+    {
+        *line = heeded.join(&b' ');
+    }
+}
+
+pub(super) fn line_length_in_9_bits(_: &Model, call: &mut Call) {
+    if let Some(line) = number_line(call) {
+        line.truncate(line.len() % (1 << 9));
+    }
+}
+
+pub(super) fn room_in_12_bits(_: &Model, call: &mut Call) {
+    if let Call::Read { room, .. } | Call::Membership { room, .. } = call {
+        *room %= 1 << 12;
+    }
+}
+
+/// The name of the file in a read.
+fn read_name(call: &mut Call) -> Option<&mut Vec<u8>> {
+    match call {
+        Call::Read { file, .. } => Some(file),
+        _ => None,
+    }
+}
+
+/// The name of the file in a setting.
+fn setting_name(call: &mut Call) -> Option<&mut Vec<u8>> {
+    match call {
+        Call::WriteSetting { file, .. } => Some(file),
+        _ => None,
+    }
+}
+
+/// Takes a name for another that differs in the last byte only.
+fn ignore_last_byte(name: &mut [u8]) {
+    let is_alike = |file: &&[u8]| match (file.split_last(), name.split_last()) {
+        (Some((_, file)), Some((_, name))) => file == name,
+        _ => false,
+    };
+    if let Some(file) = FILES.into_iter().find(is_alike) {
+        name.copy_from_slice(file);
+    }
+}
+
+pub(super) fn last_byte_of_read_ignored(_: &Model, call: &mut Call) {
+    if let Some(name) = read_name(call) {
+        ignore_last_byte(name);
+    }
+}
+
+pub(super) fn last_byte_of_setting_ignored(_: &Model, call: &mut Call) {
+    if let Some(name) = setting_name(call) {
+        ignore_last_byte(name);
+    }
+}
+
+/// A file by its place in [`FILES`].
+pub(super) fn longer_name_read<const FILE: usize>(_: &Model, call: &mut Call) {
+    if let Some(name) = read_name(call)
+        && name.starts_with(FILES[FILE])
+    {
+        name.truncate(FILES[FILE].len());
+    }
+}
+
+pub(super) fn longer_name_set<const FILE: usize>(_: &Model, call: &mut Call) {
+    if let Some(name) = setting_name(call)
+        && name.starts_with(FILES[FILE])
+    {
+        name.truncate(FILES[FILE].len());
     }
 }

@@ -4,14 +4,14 @@ use super::Outcome;
 use crate::call::Call;
 use crate::calls::{Calls, NO_GROUP};
 use crate::checks::{fork, release, write_procs};
-use crate::model::{CPU, DEFAULTS, Limit, Model, Process, control_word, number, words};
+use crate::model::{CPU, DEFAULTS, Limit, MEMORY, Model, Process, control_word, number, words};
 
 /// The process that a line of cgroup.procs names, as it was before the call.
 fn moved<'a>(model: &'a Model, line: &[u8]) -> Option<&'a Process> {
     model.process(u64::try_from(number(words(line).first()?)?).ok()?)
 }
 
-/// The figure of a setting's line.
+/// The figure of a line.
 fn figure(line: &[u8]) -> Option<u64> {
     u64::try_from(number(words(line).first()?)?).ok()
 }
@@ -48,7 +48,7 @@ pub(super) fn ancestor_not_asked(done: &mut Outcome) {
     let may = done.before.may_write(*user, moved.group);
     let refused = done.refused_by();
     if refused == Some(write_procs::MAY_NOT_WRITE_LOWEST) && may {
-        done.answer.number = done.after.write_procs(0, *group, line);
+        *done.number = done.after.write_procs(0, *group, line);
     }
     if !may && refused.is_none_or(|check| check == write_procs::HAS_SET) {
         done.refuse(13);
@@ -93,7 +93,7 @@ pub(super) fn word_by_word(done: &mut Outcome) {
     }
 }
 
-pub(super) fn asked_again_joins(done: &mut Outcome) {
+pub(super) fn taken_back_joins(done: &mut Outcome) {
     if let Call::WriteSubtreeControl { group, line, .. } = done.call
         && done.is_success()
         && *group != 0
@@ -138,10 +138,8 @@ pub(super) fn period_reset(done: &mut Outcome) {
 }
 
 pub(super) fn consulted_one_short(done: &mut Outcome) {
-    if matches!(done.call, Call::Charge { .. } | Call::Fork { .. })
-        && done.answer.told[0] != NO_GROUP
-    {
-        done.answer.told[1] -= 1;
+    if matches!(done.call, Call::Charge { .. } | Call::Fork { .. }) && done.told[0] != NO_GROUP {
+        done.told[1] -= 1;
     }
 }
 
@@ -155,15 +153,20 @@ fn charged(done: &Outcome) -> Option<(u64, u64)> {
 
 pub(super) fn half_charged(done: &mut Outcome) {
     if let Some((group, pages)) = charged(done)
-        && done.answer.number == 12
-        && done.answer.told[0] != group
+        && *done.number == 12
+        && done.told[0] != group
     {
         done.after.group_mut(group).own_pages += pages;
     }
 }
 
-pub(super) fn compared_in_36_bits(done: &mut Outcome) {
+/// Grants a charge that was refused for want of room, where there is room by another idea of what
+/// is used.
+fn charge_by(done: &mut Outcome, usage: impl Fn(&Model, u64) -> u64) {
     let Some((group, pages)) = charged(done) else { return };
+    if *done.number != 12 {
+        return;
+    }
     let chain = done.before.chain(group);
     let limit = |up: u64| -> Limit {
         match up {
@@ -171,13 +174,48 @@ pub(super) fn compared_in_36_bits(done: &mut Outcome) {
             _ => done.before.group(up)?.settings.memory_max,
         }
     };
-    let has_room =
-        |&up: &u64| limit(up).is_none_or(|max| done.before.usage(up) % (1 << 24) + pages <= max);
-    if done.answer.number == 12 && chain.iter().all(has_room) {
-        done.after.group_mut(group).own_pages += pages;
-        done.answer.number = 0;
-        done.answer.told[..2].copy_from_slice(&[NO_GROUP, chain.len() as u64]);
+    let is_full = |&up: &u64| limit(up).is_some_and(|max| usage(done.before, up) + pages > max);
+    match chain.iter().position(is_full) {
+        Some(place) => *done.told = [chain[place], place as u64 + 1],
+        None => {
+            done.after.group_mut(group).own_pages += pages;
+            *done.number = 0;
+            *done.told = [NO_GROUP, chain.len() as u64];
+        }
     }
+}
+
+pub(super) fn compared_in_36_bits(done: &mut Outcome) {
+    charge_by(done, |model, group| model.usage(group) % (1 << 24));
+}
+
+/// The groups at depth 8 below a group.
+fn at_depth_8(model: &Model, group: u64) -> impl Iterator<Item = u64> {
+    let is_below = move |&other: &u64| {
+        let chain = model.chain(other);
+        chain.len() == 9 && chain[1..].contains(&group)
+    };
+    model.live_groups().filter(is_below)
+}
+
+/// The usage of a group by a sum that stops at depth 7.
+fn shallow_usage(model: &Model, group: u64) -> u64 {
+    let own = |deep| model.group(deep).map_or(0, |kept| kept.own_pages);
+    model.usage(group) - at_depth_8(model, group).map(own).sum::<u64>()
+}
+
+pub(super) fn memory_max_of_seven(done: &mut Outcome) {
+    charge_by(done, |model, group| match group {
+        0 => model.usage(0),
+        _ => shallow_usage(model, group),
+    });
+}
+
+pub(super) fn machine_of_seven(done: &mut Outcome) {
+    charge_by(done, |model, group| match group {
+        0 => shallow_usage(model, 0),
+        _ => model.usage(group),
+    });
 }
 
 pub(super) fn own_pages_in_22_bits(done: &mut Outcome) {
@@ -186,25 +224,83 @@ pub(super) fn own_pages_in_22_bits(done: &mut Outcome) {
     }
 }
 
-pub(super) fn release_not_live_22(done: &mut Outcome) {
-    if done.refused_by() == Some(release::NOT_LIVE) {
-        done.answer.number = 22;
+pub(super) fn own_pages_in_22_bits_where_off(done: &mut Outcome) {
+    if let Some((group, _)) = charged(done)
+        && group != 0
+        && !done.before.chain(group).iter().any(|&up| done.before.is_on(MEMORY, up))
+    {
+        done.after.group_mut(group).own_pages %= 1 << 22;
     }
 }
 
-/// A 256th process is counted as none.
+pub(super) fn root_pages_in_22_bits(done: &mut Outcome) {
+    done.after.group_mut(0).own_pages %= 1 << 22;
+}
+
+pub(super) fn release_not_live_22(done: &mut Outcome) {
+    if done.refused_by() == Some(release::NOT_LIVE) {
+        *done.number = 22;
+    }
+}
+
+/// Grants a fork that was refused for want of room, where there is room by another idea of how many
+/// processes there are.
+fn fork_by(done: &mut Outcome, population: impl Fn(&Model, u64) -> u64) {
+    let Call::Fork { parent, process } = done.call else { return };
+    if done.refused_by() != Some(fork::PIDS_LIMIT) {
+        return;
+    }
+    let Some(forked) = done.before.process(*parent) else { return };
+    let chain = done.before.chain(forked.group);
+    let limit = |up: u64| done.before.group(up).and_then(|kept| kept.settings.pids_max);
+    let is_full = |&up: &u64| limit(up).is_some_and(|max| population(done.before, up) + 1 > max);
+    match chain.iter().position(is_full) {
+        Some(place) => *done.told = [chain[place], place as u64 + 1],
+        None => {
+            done.after.admit(*process, forked.user);
+            done.after.write_procs(0, forked.group, process.to_string().as_bytes());
+            *done.number = 0;
+            *done.told = [NO_GROUP, chain.len() as u64];
+        }
+    }
+}
+
+/// A 256th process makes none.
 pub(super) fn population_in_8_bits(done: &mut Outcome) {
+    fork_by(done, |model, group| match model.population(group) {
+        255 => 0,
+        population => population,
+    });
+}
+
+pub(super) fn pids_max_of_seven(done: &mut Outcome) {
+    fork_by(done, |model, group| {
+        let deep: usize = at_depth_8(model, group).map(|deep| model.holds(deep).count()).sum();
+        model.population(group) - deep as u64
+    });
+}
+
+/// Makes a process of the root user 0's.
+fn give_to_user_0(done: &mut Outcome, process: u64) {
+    done.after.exit(process);
+    done.after.admit(process, 0);
+}
+
+pub(super) fn root_forks_for_user_0(done: &mut Outcome) {
     if let Call::Fork { parent, process } = done.call
-        && done.refused_by() == Some(fork::PIDS_LIMIT)
-        && done.before.live_processes().count() == 255
-        && done.before.population(done.answer.told[0]) == 255
-        && let Some(forked) = done.before.process(*parent)
+        && done.is_success()
+        && done.before.process(*parent).is_some_and(|forked| forked.group == 0)
     {
-        done.after.admit(*process, forked.user);
-        done.after.write_procs(0, forked.group, process.to_string().as_bytes());
-        done.answer.number = 0;
-        let consulted = done.before.chain(forked.group).len() as u64;
-        done.answer.told[..2].copy_from_slice(&[NO_GROUP, consulted]);
+        give_to_user_0(done, *process);
+    }
+}
+
+pub(super) fn root_takes_for_user_0(done: &mut Outcome) {
+    if let Call::WriteProcs { group: 0, line, .. } = done.call
+        && done.is_success()
+        && let Some(process) = figure(line)
+    {
+        give_to_user_0(done, process);
     }
 }
 
@@ -222,6 +318,12 @@ fn removed(done: &Outcome) -> Option<(u64, u64, u64)> {
 pub(super) fn pages_dropped(done: &mut Outcome) {
     if let Some((_, parent, pages)) = removed(done) {
         done.after.group_mut(parent).own_pages -= pages;
+    }
+}
+
+pub(super) fn most_pages_passed_on(done: &mut Outcome) {
+    if let Some((_, parent, pages)) = removed(done) {
+        done.after.group_mut(parent).own_pages -= pages.saturating_sub(1 << 20);
     }
 }
 

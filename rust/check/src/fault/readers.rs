@@ -1,7 +1,7 @@
 //! Faults of a host that shows a reader something else.
 
-use super::{Asked, Reading};
-use crate::calls::Calls;
+use super::Reading;
+use crate::call::Call;
 
 impl Reading<'_> {
     /// The text that was put into the buffer.
@@ -15,7 +15,15 @@ impl Reading<'_> {
     /// Puts a text that is no longer than the right one in its place.
     fn show(&mut self, text: &str) {
         self.reply[..text.len()].copy_from_slice(text.as_bytes());
-        *self.told = [text.len() as u64];
+        self.told[0] = text.len() as u64;
+    }
+
+    /// The group, if this is the file that is read.
+    fn group_of(&self, name: &[u8]) -> Option<u64> {
+        match self.call {
+            Call::Read { group, file, .. } if file == name => Some(*group),
+            _ => None,
+        }
     }
 }
 
@@ -29,11 +37,8 @@ pub(super) fn byte_after_text(reading: &mut Reading) -> u32 {
 
 pub(super) fn short_buffer_written(reading: &mut Reading) -> u32 {
     if reading.number == 28 {
-        let (mut whole, mut told) = ([0; 1024], [0]);
-        match reading.asked {
-            Asked::File(group, file) => reading.model.read(group, file, &mut whole, &mut told),
-            Asked::Membership(process) => reading.model.membership(process, &mut whole, &mut told),
-        };
+        let mut whole = [0; 1024];
+        reading.call.ask(reading.model, &mut [0; 2], &mut whole);
         reading.reply.copy_from_slice(&whole[..reading.reply.len()]);
     }
     reading.number
@@ -45,7 +50,7 @@ pub(super) fn exact_is_short(reading: &mut Reading) -> u32 {
 }
 
 pub(super) fn only_own_processes(reading: &mut Reading) -> u32 {
-    if let Asked::File(group, b"cgroup.events") = reading.asked
+    if let Some(group) = reading.group_of(b"cgroup.events")
         && reading.number == 0
         && reading.model.holds(group).next().is_none()
     {
@@ -55,7 +60,7 @@ pub(super) fn only_own_processes(reading: &mut Reading) -> u32 {
 }
 
 fn usage_modulo(reading: &mut Reading, bytes: u64) -> u32 {
-    if let Asked::File(_, b"memory.current") = reading.asked
+    if reading.group_of(b"memory.current").is_some()
         && let Some(usage) = reading.text().and_then(|text| text.trim_end().parse::<u64>().ok())
     {
         reading.show(&format!("{}\n", usage % bytes));
@@ -72,7 +77,7 @@ pub(super) fn usage_in_44_bits(reading: &mut Reading) -> u32 {
 }
 
 pub(super) fn depth_8_cut_short(reading: &mut Reading) -> u32 {
-    if let Asked::Membership(_) = reading.asked
+    if let Call::Membership { .. } = reading.call
         && let Some(text) = reading.text()
         && text.matches('/').count() == 8
         && let Some((above, _)) = text.rsplit_once('/')

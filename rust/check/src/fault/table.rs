@@ -64,12 +64,48 @@ pub(super) const FAULTS: &[Fault] = &[
     fault("charge compares usage modulo 2^36 bytes", Outcome(outcomes::compared_in_36_bits)),
     fault("own pages are kept in 22 bits", Outcome(outcomes::own_pages_in_22_bits)),
     fault("fork counts processes in 8 bits", Outcome(outcomes::population_in_8_bits)),
+    fault("the root's own pages are kept in 22 bits", Outcome(outcomes::root_pages_in_22_bits)),
+    fault(
+        "own pages are kept in 22 bits where memory is on nowhere up the chain",
+        Outcome(outcomes::own_pages_in_22_bits_where_off),
+    ),
+    fault("remove passes 2^20 pages on at most", Outcome(outcomes::most_pages_passed_on)),
+    fault(
+        "a line for cgroup.procs or a setting has its length modulo 2^9",
+        Instead(instead::line_length_in_9_bits),
+    ),
+    fault("a reply's room is taken modulo 4,096", Instead(instead::room_in_12_bits)),
     // Lines and words.
     fault("a second word for pids.max is ignored", Instead(instead::second_word_ignored)),
     fault("the byte before 0 is a digit", Instead(instead::slash_is_digit)),
     fault("the byte after 9 is a digit", Instead(instead::colon_is_digit)),
     fault("the question looks at 4,096 bytes only", Instead(instead::question_cut_short)),
+    fault("the question looks at 16,384 bytes only", Instead(instead::question_cut_at_16_384)),
+    fault("a control line heeds its first 16 words only", Instead(instead::sixteen_words)),
     fault("cpu.max of one word resets the period", Outcome(outcomes::period_reset)),
+    // Names of files.
+    fault(
+        "a read ignores the last byte of a file's name",
+        Instead(instead::last_byte_of_read_ignored),
+    ),
+    fault(
+        "a setting ignores the last byte of a file's name",
+        Instead(instead::last_byte_of_setting_ignored),
+    ),
+    fault("a longer name reads cgroup.procs", Instead(instead::longer_name_read::<0>)),
+    fault("a longer name reads cgroup.controllers", Instead(instead::longer_name_read::<1>)),
+    fault("a longer name reads cgroup.subtree_control", Instead(instead::longer_name_read::<2>)),
+    fault("a longer name reads cgroup.events", Instead(instead::longer_name_read::<3>)),
+    fault("a longer name reads memory.current", Instead(instead::longer_name_read::<4>)),
+    fault("a longer name reads memory.max", Instead(instead::longer_name_read::<5>)),
+    fault("a longer name reads pids.current", Instead(instead::longer_name_read::<6>)),
+    fault("a longer name reads pids.max", Instead(instead::longer_name_read::<7>)),
+    fault("a longer name reads cpu.weight", Instead(instead::longer_name_read::<8>)),
+    fault("a longer name reads cpu.max", Instead(instead::longer_name_read::<9>)),
+    fault("a longer name sets memory.max", Instead(instead::longer_name_set::<5>)),
+    fault("a longer name sets pids.max", Instead(instead::longer_name_set::<7>)),
+    fault("a longer name sets cpu.weight", Instead(instead::longer_name_set::<8>)),
+    fault("a longer name sets cpu.max", Instead(instead::longer_name_set::<9>)),
     // Effects that go too far, or not far enough.
     fault(
         "a controller that leaves resets the first nine children only",
@@ -81,9 +117,17 @@ pub(super) const FAULTS: &[Fault] = &[
     ),
     fault("a removed group's own pages go to the root", Outcome(outcomes::pages_to_root)),
     fault("hand over empties the control set", Outcome(outcomes::hand_over_empties_set)),
+    fault("fork in the root makes the child user 0's", Outcome(outcomes::root_forks_for_user_0)),
     fault(
-        "asking for a controller that is in the set counts as joining",
-        Outcome(outcomes::asked_again_joins),
+        "a move to the root makes the process user 0's",
+        Outcome(outcomes::root_takes_for_user_0),
+    ),
+    fault("memory.max further up ignores pages at depth 8", Outcome(outcomes::memory_max_of_seven)),
+    fault("pids.max further up ignores processes at depth 8", Outcome(outcomes::pids_max_of_seven)),
+    fault("the machine size ignores pages at depth 8", Outcome(outcomes::machine_of_seven)),
+    fault(
+        "a \"+\" that a later \"-\" takes back counts as joining",
+        Outcome(outcomes::taken_back_joins),
     ),
     // Readers.
     fault(
