@@ -1,8 +1,8 @@
 //! Calls with every argument of any kind: each kind of number, user, line and buffer about as often
-//! as any other, so that two checks of a call fail at once about as often as one does.
+//! as any other, so that two checks of a call hold at once about as often as one does.
 
 use super::super::Generator;
-use super::super::arguments::{ODD_FILES, SETTINGS};
+use super::super::arguments::SETTINGS;
 use super::stage::{has_set, stacked};
 use crate::call::Call;
 use crate::compare::FILES;
@@ -80,8 +80,8 @@ impl Generator {
             let group = self.any_group(sketch);
             let file = self.any_setting(sketch, group);
             let user = self.any_user(sketch, group);
-            let line = self.any_setting_line(file);
-            self.plan(sketch, Call::WriteSetting { user, group, file: file.to_vec(), line });
+            let line = self.any_setting_line(&file);
+            self.plan(sketch, Call::WriteSetting { user, group, file, line });
         }
     }
 
@@ -125,10 +125,10 @@ impl Generator {
             let group = self.any_group(sketch);
             let question = if self.random.percent(70) {
                 let file = match self.random.below(6) {
-                    0 => self.random.pick(&ODD_FILES),
-                    _ => self.random.pick(&FILES),
+                    0 => self.odd_file(),
+                    _ => self.random.pick(&FILES).to_vec(),
                 };
-                Call::Read { group, file: file.to_vec(), room: 4096 }
+                Call::Read { group, file, room: 4096 }
             } else {
                 Call::Membership { process: self.any_process(sketch), room: 4096 }
             };
@@ -216,7 +216,7 @@ impl Generator {
     }
 
     /// A setting, more often one that is on there; now and then a file that is none.
-    fn any_setting(&mut self, sketch: &Model, group: u64) -> &'static [u8] {
+    fn any_setting(&mut self, sketch: &Model, group: u64) -> Vec<u8> {
         let is_on = |file: &&[u8]| {
             let name = file.split(|&byte| byte == b'.').next();
             let controller = CONTROLLERS.iter().position(|c| Some(c.as_bytes()) == name);
@@ -224,11 +224,11 @@ impl Generator {
         };
         let on: Vec<&[u8]> = SETTINGS.into_iter().filter(is_on).collect();
         match self.random.below(8) {
-            0 => self.random.pick(&FILES),
-            1 => self.random.pick(&ODD_FILES),
-            2..4 => self.random.pick(&SETTINGS),
-            _ if on.is_empty() => self.random.pick(&SETTINGS),
-            _ => self.random.pick(&on),
+            0 => self.random.pick(&FILES).to_vec(),
+            1 => self.odd_file(),
+            2..4 => self.random.pick(&SETTINGS).to_vec(),
+            _ if on.is_empty() => self.random.pick(&SETTINGS).to_vec(),
+            _ => self.random.pick(&on).to_vec(),
         }
     }
 
