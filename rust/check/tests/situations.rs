@@ -3,6 +3,7 @@
 
 use std::collections::BTreeMap;
 
+use shootspiral_check::checks::{write_procs, write_setting};
 use shootspiral_check::generate::Generator;
 use shootspiral_check::model::{CONTROLLERS, CPU, MEMORY, Model, PIDS};
 use shootspiral_check::{Call, Calls};
@@ -93,6 +94,7 @@ fn places(model: &Model, call: &Call, number: u32, told: &[u64]) -> Vec<String> 
         }
     };
     let own = |group: u64| model.group(group).map_or(0, |kept| kept.own_pages);
+    let refused_by = model.held(call).first().copied();
     match call {
         Call::Make { parent, .. } => {
             note(number == 11, "a group not made under depth 8");
@@ -119,20 +121,25 @@ fn places(model: &Model, call: &Call, number: u32, told: &[u64]) -> Vec<String> 
                 note(true, &format!("{name} leaves ten children with settings"));
             }
         }
-        Call::WriteSetting { file, line, .. } if number == 22 => {
+        Call::WriteSetting { file, line, .. } => {
             let words = line.split(|&byte| byte == b' ').filter(|word| !word.is_empty()).count();
             let file = String::from_utf8_lossy(file);
-            note(words == 2, &format!("two words to {file}"));
-            note(words == 3, &format!("three words to {file}"));
-            note(is_beside_digits(line), &format!("{file} with / or :"));
+            let is_more = refused_by == Some(write_setting::MORE_WORDS);
+            note(is_more && words == 2, &format!("two words to {file}"));
+            note(is_more && words == 3, &format!("three words to {file}"));
+            let malformed = [write_setting::MALFORMED, write_setting::PERIOD_MALFORMED];
+            let is_malformed = refused_by.is_some_and(|check| malformed.contains(&check));
+            note(is_malformed && is_beside_digits(line), &format!("{file} with / or :"));
         }
         Call::WriteProcs { user, group, line } => {
-            note(number == 22 && is_beside_digits(line), "cgroup.procs with / or :");
+            let is_malformed = refused_by == Some(write_procs::NOT_A_NUMBER);
+            note(is_malformed && is_beside_digits(line), "cgroup.procs with / or :");
             let is_owner = model.group(*group).is_some_and(|kept| kept.owner == *user);
             let process = std::str::from_utf8(line).ok().and_then(|line| line.trim().parse().ok());
             let moved = process.and_then(|process| model.process(process));
             let is_own = is_owner && moved.is_some_and(|kept| kept.user == *user);
-            note(number == 13 && is_own, "a move that the common ancestor's owner alone may make");
+            let is_refused = refused_by == Some(write_procs::MAY_NOT_WRITE_LOWEST);
+            note(is_refused && is_own, "a move that the common ancestor's owner alone may make");
         }
         Call::Fork { parent, .. } => {
             let group = model.process(*parent).map_or(0, |kept| kept.group);
