@@ -50,11 +50,13 @@ impl Generator {
                 (1, _, Some(kept)) => kept.owner,
                 _ => self.any_user(sketch, group),
             };
-            let line = match self.random.below(8) {
+            let line = match self.random.below(10) {
                 0 => self.malformed_word(),
                 1 => format!("{process} {process}").into(),
                 2 => format!("{process:<129}").into(),
                 3 => format!("{process:0>129}").into(),
+                4 => self.random.pick(&["", " ", "\n"]).into(),
+                5 => self.random.pick(&["0", "000\n"]).into(),
                 _ => process.to_string().into(),
             };
             self.plan(sketch, Call::WriteProcs { user, group, line });
@@ -162,7 +164,18 @@ impl Generator {
     pub(super) fn any_process(&mut self, sketch: &Model) -> u64 {
         let place = |process: u64| sketch.process(process).map_or(0, |kept| kept.group);
         let of_kind = match self.random.below(7) {
-            0 => Some(self.random.pick(&[0, 0, 257, 258, 512, 1 << 32, (1 << 32) + 1, u64::MAX])),
+            0 => Some(self.random.pick(&[
+                0,
+                0,
+                0,
+                0,
+                257,
+                258,
+                512,
+                1 << 32,
+                (1 << 32) + 1,
+                u64::MAX,
+            ])),
             1 => self.free_process(sketch),
             2..5 => {
                 self.random.one_of(sketch.live_processes().filter(|&process| place(process) != 0))
@@ -223,20 +236,21 @@ impl Generator {
             sketch.group(group).is_some() && controller.is_some_and(|k| sketch.is_on(k, group))
         };
         let on: Vec<&[u8]> = SETTINGS.into_iter().filter(is_on).collect();
-        match self.random.below(8) {
+        match self.random.below(9) {
             0 => self.random.pick(&FILES).to_vec(),
             1 => self.odd_file(),
-            2..4 => self.random.pick(&SETTINGS).to_vec(),
+            2 => b"cpu.max".to_vec(),
+            3..5 => self.random.pick(&SETTINGS).to_vec(),
             _ if on.is_empty() => self.random.pick(&SETTINGS).to_vec(),
             _ => self.random.pick(&on).to_vec(),
         }
     }
 
-    /// One word or more, each in range, out of range or malformed on its own.
+    /// Up to three words, each in range, out of range or malformed on its own.
     fn any_setting_line(&mut self, file: &[u8]) -> Vec<u8> {
         let mut words = vec![];
         let most = if file == b"cpu.max" { 2 } else { 1 };
-        for place in 0..self.random.pick(&[1, most, most, 2, 3]) {
+        for place in 0..self.random.pick(&[0, 1, most, most, most, 2, 3]) {
             let (fine, outside) = match (file, place) {
                 (b"memory.max", 0) => (["0", "8192"], ["4503599627370497", "9999999999999999999"]),
                 (b"pids.max", 0) => (["0", "max"], ["4194305", "4294967297"]),
