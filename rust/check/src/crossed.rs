@@ -159,7 +159,7 @@ fn every(name: &str) -> Vec<Call> {
         "membership" => {
             by_process(&|process| [0, 64].map(|room| Call::Membership { process, room }).to_vec())
         }
-        _ => unreachable!("{name} is not in the table"),
+        _ => unreachable!("no arguments for {name}"),
     }
 }
 

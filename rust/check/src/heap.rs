@@ -25,7 +25,7 @@ pub fn calls() -> Vec<Call> {
         calls.extend([limit(group, usage), charge(1), release(BOTTOM, MOST), charge(1)]);
         calls.extend([limit(group, 1), charge(1), limit(group, MACHINE)]);
     }
-    calls.push(Call::Exit { process: 5 });
+    calls.extend([release(BOTTOM, 1), charge(1), Call::Exit { process: 5 }]);
     for group in (1..=BOTTOM).rev() {
         calls.extend([Call::Remove { user: 0, group }, release(group, 1)]);
     }
@@ -34,8 +34,8 @@ pub fn calls() -> Vec<Call> {
     calls
 }
 
-/// More than 2^24 pages in a group where memory is on nowhere, a page more at a time than is left of
-/// them; then passed up once, and released to the last.
+/// More than 2^24 pages in a group where memory is on nowhere. They pass to its parent, and are
+/// released there to the last.
 fn unseen() -> Vec<Call> {
     let mut calls = vec![make(0, 1), make(1, 2), Call::Admit { process: 5, user: 7 }, enter(2)];
     calls.extend((0..17).map(|_| charge(MOST)));

@@ -225,7 +225,7 @@ pub fn values(model: &Model) -> Vec<Kind> {
 /// The kinds of a call, by the checks that hold.
 pub fn of_call(model: &Model, call: &Call, held: &[&'static Check]) -> Vec<Kind> {
     match call {
-        Call::Read { group: _, file, room } => {
+        Call::Read { file, room, .. } => {
             let file = String::from_utf8_lossy(file);
             let mut kinds = buffer(model, call, held, &file, *room);
             if held == [read::NO_SUCH_FILE] {
@@ -259,6 +259,18 @@ pub fn of_call(model: &Model, call: &Call, held: &[&'static Check]) -> Vec<Kind>
     }
 }
 
+/// The checks before a buffer is asked for, and what it is to have no bytes there.
+const NO_BYTES: [(&Check, &str); 7] = [
+    (read::ABOVE_63, "no bytes for a group above 63"),
+    (read::NOT_LIVE, "no bytes for a group not live"),
+    (read::NO_SUCH_FILE, "no bytes for an absent file"),
+    (read::EVENTS_ON_ROOT, "no bytes for an absent file"),
+    (read::NOT_ON, "no bytes for an absent file"),
+    (membership::OUTSIDE, "no bytes for a process outside 1 to 256"),
+    (membership::NOT_LIVE, "no bytes for a process not live"),
+];
+
+/// How long the buffer is, beside the text.
 fn buffer(
     model: &Model,
     call: &Call,
@@ -266,20 +278,9 @@ fn buffer(
     text: &str,
     given: usize,
 ) -> Vec<Kind> {
-    let refused = match held.first().copied() {
-        None => None,
-        Some(check) if check == read::SHORT_BUFFER || check == membership::SHORT_BUFFER => None,
-        Some(_) if given > 0 => return vec![],
-        Some(check) if check == read::ABOVE_63 => Some("no bytes for a group above 63"),
-        Some(check) if check == read::NOT_LIVE => Some("no bytes for a group not live"),
-        Some(check) if check == membership::OUTSIDE => {
-            Some("no bytes for a process outside 1 to 256")
-        }
-        Some(check) if check == membership::NOT_LIVE => Some("no bytes for a process not live"),
-        Some(_) => Some("no bytes for an absent file"),
-    };
-    if let Some(name) = refused {
-        return vec![kind("buffer", name)];
+    let refused = NO_BYTES.iter().find(|(check, _)| held.first() == Some(check));
+    if let Some((_, name)) = refused {
+        return if given == 0 { vec![kind("buffer", name)] } else { vec![] };
     }
     let mut roomy = call.clone();
     if let Call::Read { room, .. } | Call::Membership { room, .. } = &mut roomy {

@@ -22,7 +22,7 @@ pub fn calls() -> Vec<Call> {
 /// A byte less, more or changed at either end and about the dot, and capitals.
 fn near(file: &[u8]) -> Vec<Vec<u8>> {
     let last = file.len() - 1;
-    let dot = file.iter().position(|&byte| byte == b'.').unwrap_or(0);
+    let dot = file.iter().position(|&byte| byte == b'.').expect("a dot in every name");
     let mut names = vec![
         file[..last].to_vec(),
         file[1..].to_vec(),
