@@ -176,29 +176,28 @@ const NEVER: &[(&[&Check], &[&Check], &str)] = &[
     (&[hand_over::IS_ROOT], &[hand_over::NOT_LIVE], "the root is live"),
     (
         &[write_procs::ABOVE_63, write_procs::NOT_LIVE],
-        &[write_procs::MAY_NOT_WRITE_LOWEST, write_procs::HAS_SET],
-        "what is not live has no chain and no set",
+        &[write_procs::HAS_SET],
+        "what is not live has no set",
     ),
     (
         &[write_procs::NO_WORD, write_procs::MORE_WORDS, write_procs::NOT_A_NUMBER],
         &[write_procs::ABOVE_256, write_procs::PROCESS_NOT_LIVE],
         "no number is named",
     ),
-    (
-        &[write_procs::NO_WORD, write_procs::MORE_WORDS, write_procs::NOT_A_NUMBER],
-        &[write_procs::MAY_NOT_WRITE_LOWEST],
-        "no process is named",
-    ),
-    (
-        &[write_procs::IS_0, write_procs::ABOVE_256, write_procs::PROCESS_NOT_LIVE],
-        &[write_procs::MAY_NOT_WRITE_LOWEST],
-        "what is not live is in no group",
-    ),
     (&[write_procs::IS_0], &[write_procs::ABOVE_256], "0 is not above 256"),
     (
         &[write_subtree_control::ABOVE_63, write_subtree_control::NOT_LIVE],
-        &[write_subtree_control::IN_CHILDS_SET, write_subtree_control::HOLDS_PROCESS],
-        "what is not live holds nothing",
+        &[
+            write_subtree_control::NOT_AVAILABLE,
+            write_subtree_control::IN_CHILDS_SET,
+            write_subtree_control::HOLDS_PROCESS,
+        ],
+        "what is not live holds nothing and lacks nothing",
+    ),
+    (
+        &[write_setting::ABOVE_63, write_setting::NOT_LIVE],
+        &[write_setting::NOT_ON],
+        "where nothing is live nothing is off",
     ),
     (
         &[write_setting::NOT_A_SETTING],
@@ -237,6 +236,7 @@ const NEVER: &[(&[&Check], &[&Check], &str)] = &[
     (&[charge::NO_PAGES], &[charge::MACHINE_SIZE], "usage never passes the machine size"),
     (&[release::NO_PAGES], &[release::MORE_THAN_OWN], "0 is never more"),
     (&[read::ABOVE_63], &[read::EVENTS_ON_ROOT], "0 is not above 63"),
+    (&[read::ABOVE_63, read::NOT_LIVE], &[read::NOT_ON], "where nothing is live nothing is off"),
     (
         &[read::ABOVE_63, read::NOT_LIVE, read::NO_SUCH_FILE],
         &[read::SHORT_BUFFER],
@@ -250,6 +250,15 @@ pub fn never(first: &Check, second: &Check) -> Option<&'static str> {
     let apart =
         NEVER.iter().find(|(one, other, _)| one.contains(&first) && other.contains(&second));
     apart.map(|(_, _, why)| *why)
+}
+
+/// The check that refuses a call, with each other that holds and whose order shows: whichever of
+/// the two a host asks first, it says no with another number. Past a check with the number of the
+/// first, nothing shows.
+pub fn besides(held: &[&'static Check]) -> Vec<(&'static Check, &'static Check)> {
+    let Some((first, later)) = held.split_first() else { return vec![] };
+    let shown = later.iter().take_while(|second| second.number != first.number);
+    shown.map(|second| (*first, *second)).collect()
 }
 
 /// The checks of its call that come later, with another number, and can hold with it: where they do,

@@ -1,11 +1,11 @@
 //! How often a run came to each answer of each call, to each pair of checks that both hold, and to
 //! each kind of what is read; and which of them it never came to.
 
-use std::collections::BTreeMap;
+use std::collections::{BTreeMap, BTreeSet};
 use std::fmt;
 
 use crate::call::Call;
-use crate::checks::{Check, TABLE, never, with};
+use crate::checks::{Check, TABLE, besides, never, with};
 use crate::kinds::{self, KINDS, Kind};
 use crate::model::Model;
 
@@ -13,7 +13,10 @@ use crate::model::Model;
 pub struct Counts {
     /// By the check that refused the call, or none.
     calls: BTreeMap<(&'static str, Option<&'static Check>), u64>,
+    /// Those whose order shows.
     pairs: BTreeMap<(&'static Check, &'static Check), u64>,
+    /// Any two that held in one call.
+    together: BTreeSet<(&'static Check, &'static Check)>,
     kinds: BTreeMap<Kind, u64>,
 }
 
@@ -27,12 +30,13 @@ impl Counts {
     pub fn call(&mut self, model: &Model, call: &Call) {
         let held = model.held(call);
         *self.calls.entry((call.name(), held.first().copied())).or_default() += 1;
-        if let Some((first, others)) = held.split_first() {
-            for second in others {
-                *self.pairs.entry((first, second)).or_default() += 1;
-            }
+        for pair in besides(&held) {
+            *self.pairs.entry(pair).or_default() += 1;
         }
-        for kind in kinds::question(model, call) {
+        for (place, first) in held.iter().enumerate() {
+            self.together.extend(held[place + 1..].iter().map(|second| (*first, *second)));
+        }
+        for kind in kinds::of_call(model, call, &held) {
             *self.kinds.entry(kind).or_default() += 1;
         }
     }
@@ -89,7 +93,7 @@ impl Counts {
                 missing.push(format!("{what}: {name}"));
             }
         }
-        for (first, second) in self.pairs.keys() {
+        for (first, second) in &self.together {
             if let Some(why) = never(first, second) {
                 let call = first.call();
                 missing.push(format!("{call}: {first} held with {second}, yet {why}"));

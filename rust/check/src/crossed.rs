@@ -1,26 +1,27 @@
-//! A list of calls, one for each pair of checks that can hold in one call: on a tree where every
-//! check can, arguments of every kind are tried until both hold. Dice come to most pairs; this
-//! leaves none to them.
+//! A list of calls, two for each pair of checks that can hold in one call: on a tree where every
+//! check can, all arguments of a short list each are tried with all others. Dice come to most pairs;
+//! this leaves none to them. On the same tree go on the lists of [`sizes`], [`names`] and [`depths`].
+
+use std::collections::BTreeMap;
 
 use crate::call::Call;
 use crate::calls::Calls;
-use crate::checks::{Check, TABLE, with};
+use crate::checks::{Check, TABLE, besides, never, with};
 use crate::compare::FILES;
-use crate::model::{CONTROLLERS, Model};
-use crate::random::Random;
+use crate::model::Model;
+use crate::{depths, names, sizes};
 
 pub const MACHINE: u64 = 64;
 
-const TRIES: usize = 20_000;
-
 /// Some that are in `tree`, one that is not live, and two above 63.
-const GROUPS: [u64; 10] = [0, 1, 2, 3, 4, 10, 17, 63, 64, u64::MAX];
+const GROUPS: [u64; 11] = [0, 1, 2, 3, 4, 5, 10, 17, 63, 64, u64::MAX];
 const PROCESSES: [u64; 6] = [0, 5, 6, 9, 77, 257];
 const USERS: [u32; 3] = [0, 7, 8];
 const PAGES: [u64; 5] = [0, 1, 1_048_576, 1_048_577, u64::MAX];
-const SETTINGS: [&str; 8] =
-    ["memory.max", "pids.max", "cpu.weight", "cpu.max", "cpu.max", "cpu.max", "cpu.max", "io.max"];
-const FIGURES: [&str; 6] = ["0", "0", "9999999999999999", "1000", "max", "x"];
+const SETTINGS: [&str; 5] = ["memory.max", "pids.max", "cpu.weight", "cpu.max", "io.max"];
+const NUMBERS: [&str; 7] = ["0", "5", "6", "9", "77", "257", "x"];
+const FIGURES: [&str; 5] = ["0", "1000", "9999999999999999", "max", "x"];
+const CONTROLS: [&str; 7] = ["+cpu", "+memory", "+pids", "-cpu", "-memory", "-pids", "x"];
 
 pub fn calls() -> Vec<Call> {
     let mut calls = tree();
@@ -28,16 +29,18 @@ pub fn calls() -> Vec<Call> {
     for call in &calls {
         call.on(&mut model, 0);
     }
-    let mut random = Random::new(1);
-    for first in TABLE.iter().flat_map(|(_, checks)| *checks) {
-        calls.extend(with(first).filter_map(|second| find(&mut random, &model, first, second)));
+    for &(name, checks) in TABLE {
+        calls.extend(pairs(&model, name, checks));
     }
+    calls.extend(sizes::calls(&model));
+    calls.extend(names::calls());
+    calls.extend(depths::calls(&model));
     calls
 }
 
 /// Groups 1 to 4 are user 7's; 2 and 3, below it, have cpu in their sets, and pids is not on there.
-/// Processes 5 and 6, user 7's and user 8's, stand in 4 and find no room above it; 9, user 7's, is
-/// in the root. Group 17 is at depth 8.
+/// So has 5 beside them, user 0's. Processes 5 and 6, user 7's and user 8's, stand in 4 and find no
+/// room above it; 9, user 7's, is in the root. Group 17 is at depth 8.
 fn tree() -> Vec<Call> {
     let make = |user, parent, group| Call::Make { user, parent, group };
     let control =
@@ -57,6 +60,8 @@ fn tree() -> Vec<Call> {
         make(7, 2, 3),
         control(3, "+cpu"),
         make(7, 1, 4),
+        make(0, 1, 5),
+        control(5, "+cpu"),
         Call::Admit { process: 5, user: 7 },
         Call::Admit { process: 6, user: 8 },
         Call::Admit { process: 9, user: 7 },
@@ -71,55 +76,109 @@ fn tree() -> Vec<Call> {
     calls
 }
 
-/// A call that the first check refuses while the second holds.
-fn find(random: &mut Random, model: &Model, first: &Check, second: &Check) -> Option<Call> {
-    let mut attempts = (0..TRIES).map(|_| attempt(random, first.call()));
-    attempts.find(|call| {
-        let held = model.held(call);
-        held.first() == Some(&first) && held.contains(&second)
-    })
-}
-
-/// A call by its name, with arguments of any kind.
-fn attempt(random: &mut Random, name: &str) -> Call {
-    let (user, group) = (random.pick(&USERS), random.pick(&GROUPS));
-    let (process, pages) = (random.pick(&PROCESSES), random.pick(&PAGES));
-    match name {
-        "make" => Call::Make { user, parent: group, group: random.pick(&GROUPS) },
-        "remove" => Call::Remove { user, group },
-        "hand_over" => Call::HandOver { user, group, owner: 7 },
-        "write_procs" => {
-            let words = ["0", "5", "6", "9", "77", "257", "x"];
-            Call::WriteProcs {
-                user,
-                group,
-                line: line(random, |random| random.pick(&words).into()),
+/// For each check of a call, and each later one that can hold with it so that their order shows,
+/// the first call that does it and the last. Panics where there is none, and where two checks hold
+/// together that never do.
+fn pairs(model: &Model, name: &str, checks: &[&'static Check]) -> Vec<Call> {
+    let mut found: BTreeMap<(&Check, &Check), [Call; 2]> = BTreeMap::new();
+    for call in every(name) {
+        let held = model.held(&call);
+        for (place, first) in held.iter().enumerate() {
+            for second in &held[place + 1..] {
+                if let Some(why) = never(first, second) {
+                    panic!("{call}: {first} holds with {second}, yet {why}");
+                }
             }
         }
+        for pair in besides(&held) {
+            let ends = found.entry(pair).or_insert_with(|| [call.clone(), call.clone()]);
+            ends[1] = call.clone();
+        }
+    }
+    let mut calls = vec![];
+    for first in checks {
+        for second in with(first) {
+            match found.remove(&(*first, second)) {
+                Some(ends) => calls.extend(ends),
+                None => panic!("{name}: no call with {first} and {second}"),
+            }
+        }
+    }
+    calls
+}
+
+/// Every call of this name with such arguments.
+fn every(name: &str) -> Vec<Call> {
+    let by_user = |calls: &dyn Fn(u32, u64) -> Vec<Call>| {
+        let groups = |user| GROUPS.map(|group| calls(user, group)).concat();
+        USERS.map(groups).concat()
+    };
+    let by_process = |calls: &dyn Fn(u64) -> Vec<Call>| PROCESSES.map(calls).concat();
+    match name {
+        "make" => {
+            by_user(&|user, parent| GROUPS.map(|group| Call::Make { user, parent, group }).to_vec())
+        }
+        "remove" => by_user(&|user, group| vec![Call::Remove { user, group }]),
+        "hand_over" => by_user(&|user, group| vec![Call::HandOver { user, group, owner: 7 }]),
+        "write_procs" => {
+            let lines = lines(&NUMBERS, 2);
+            let write = |user, group, line| Call::WriteProcs { user, group, line };
+            by_user(&|user, group| lines.iter().map(|l| write(user, group, l.clone())).collect())
+        }
         "write_subtree_control" => {
-            let word = |random: &mut Random| {
-                random.pick(&["+", "+", "-", "x"]).to_string() + random.pick(&CONTROLLERS)
-            };
-            Call::WriteSubtreeControl { user, group, line: line(random, word) }
+            let lines = lines(&CONTROLS, 2);
+            let write = |user, group, line| Call::WriteSubtreeControl { user, group, line };
+            by_user(&|user, group| lines.iter().map(|l| write(user, group, l.clone())).collect())
         }
         "write_setting" => {
-            let file = random.pick(&SETTINGS).into();
-            let line = line(random, |random| random.pick(&FIGURES).into());
-            Call::WriteSetting { user, group, file, line }
+            let lines = lines(&FIGURES, 3);
+            let write = |user, group, file: &str, line: &Vec<u8>| {
+                let (file, line) = (file.into(), line.clone());
+                Call::WriteSetting { user, group, file, line }
+            };
+            let to = |user, group, file| {
+                lines.iter().map(|line| write(user, group, file, line)).collect::<Vec<_>>()
+            };
+            by_user(&|user, group| SETTINGS.map(|file| to(user, group, file)).concat())
         }
-        "fork" => Call::Fork { parent: process, process: random.pick(&PROCESSES) },
-        "charge" => Call::Charge { process, pages },
-        "release" => Call::Release { group, pages },
-        _ => Call::Read { group, file: random.pick(&FILES).to_vec(), room: 0 },
+        "admit" => by_process(&|process| vec![Call::Admit { process, user: 7 }]),
+        "fork" => {
+            by_process(&|parent| PROCESSES.map(|process| Call::Fork { parent, process }).to_vec())
+        }
+        "exit" => by_process(&|process| vec![Call::Exit { process }]),
+        "charge" => {
+            by_process(&|process| PAGES.map(|pages| Call::Charge { process, pages }).to_vec())
+        }
+        "release" => {
+            by_user(&|_, group| PAGES.map(|pages| Call::Release { group, pages }).to_vec())
+        }
+        "read" => by_user(&|_, group| {
+            let read = |file: &[u8], room| Call::Read { group, file: file.to_vec(), room };
+            FILES.iter().flat_map(|file| [read(file, 0), read(file, 1024)]).collect()
+        }),
+        "membership" => {
+            by_process(&|process| [0, 64].map(|room| Call::Membership { process, room }).to_vec())
+        }
+        _ => unreachable!("no arguments for {name}"),
     }
 }
 
-/// Up to three words, and a line that is too long now and then.
-fn line(random: &mut Random, word: impl Fn(&mut Random) -> String) -> Vec<u8> {
-    let words: Vec<String> = (0..random.below(4)).map(|_| word(random)).collect();
-    let mut line = words.join(" ").into_bytes();
-    if random.percent(20) {
+/// Every line of so many words or fewer, and the same drawn out to 129 bytes.
+fn lines(words: &[&str], most: usize) -> Vec<Vec<u8>> {
+    let mut lines = vec![vec![]];
+    let mut last = lines.clone();
+    for _ in 0..most {
+        let longer = |line: &Vec<u8>| {
+            let with = |word: &&str| [line, word.as_bytes()].join(&b' ').trim_ascii().to_vec();
+            words.iter().map(with).collect::<Vec<_>>()
+        };
+        last = last.iter().flat_map(longer).collect();
+        lines.extend(last.clone());
+    }
+    let mut drawn = lines.clone();
+    for line in &mut drawn {
         line.resize(129, b' ');
     }
-    line
+    lines.extend(drawn);
+    lines
 }

@@ -44,6 +44,18 @@ impl Generator {
         self.taste.machine
     }
 
+    /// A kind of call, by its weight.
+    fn kind(&mut self) -> Kind {
+        let weights = &self.taste.weights;
+        let mut at = self.random.below(weights.iter().map(|(_, weight)| weight).sum());
+        let reached = weights.iter().find(|(_, weight)| {
+            let is_within = at < *weight;
+            at = at.saturating_sub(*weight);
+            is_within
+        });
+        reached.expect("below the sum of the weights").0
+    }
+
     /// The call to make after those that led to the model.
     pub fn next(&mut self, model: &Model) -> Call {
         if let Some(seed) = self.fresh.take() {
@@ -56,14 +68,7 @@ impl Generator {
         {
             return call;
         }
-        let total = self.taste.weights.iter().map(|(_, weight)| weight).sum();
-        let mut at = self.random.below(total);
-        for (kind, weight) in self.taste.weights.clone() {
-            if at < weight {
-                return self.single(kind, model);
-            }
-            at -= weight;
-        }
-        self.single(Kind::Read, model)
+        let kind = self.kind();
+        self.single(kind, model)
     }
 }

@@ -1,15 +1,54 @@
-//! The kinds of what is read: values of each file, lengths of buffers, lines of the question.
+//! The kinds of what is read and asked: values of each file, lengths of buffers and lines, names,
+//! lines of the question, pages released, limits above depth 8.
 
 use crate::call::Call;
 use crate::calls::Calls;
+use crate::checks::{Check, membership, read, write_procs, write_setting, write_subtree_control};
 use crate::compare::FILES;
-use crate::model::{Model, control_word, words};
+use crate::model::{MEMORY, Model, control_word, words};
 
 /// What is read, and one kind of it.
 pub type Kind = (&'static str, &'static str);
 
 const SETS: &[&str] =
     &["none", "cpu", "memory", "cpu memory", "pids", "cpu pids", "memory pids", "cpu memory pids"];
+
+/// Every text there is: those of files, and the line that is none.
+pub const TEXTS: &[&str] = &[
+    "cgroup.procs",
+    "cgroup.controllers",
+    "cgroup.subtree_control",
+    "cgroup.events",
+    "memory.current",
+    "memory.max",
+    "pids.current",
+    "pids.max",
+    "cpu.weight",
+    "cpu.max",
+    "membership",
+];
+
+const NAMES: &[&str] = TEXTS.split_at(10).0;
+
+/// The files that are written.
+pub const WRITTEN: &[&str] =
+    &["cgroup.procs", "cgroup.subtree_control", "memory.max", "pids.max", "cpu.weight", "cpu.max"];
+
+const DEPTHS: [&str; 9] = [
+    "stopped at depth 0",
+    "stopped at depth 1",
+    "stopped at depth 2",
+    "stopped at depth 3",
+    "stopped at depth 4",
+    "stopped at depth 5",
+    "stopped at depth 6",
+    "stopped at depth 7",
+    "stopped at depth 8",
+];
+
+/// Bits of a word that is too narrow.
+const NARROW: [(u32, &str); 5] =
+    [(16, "2^16"), (20, "2^20"), (22, "2^22"), (24, "2^24"), (32, "2^32")];
 
 /// Every kind there is.
 pub const KINDS: &[(&str, &[&str])] = &[
@@ -32,16 +71,38 @@ pub const KINDS: &[(&str, &[&str])] = &[
         ],
     ),
     ("membership", &["the root", "depth 1", "deeper", "depth 8"]),
+    ("buffer of exactly the length", TEXTS),
+    ("buffer one byte short", TEXTS),
+    ("buffer long enough, yet not modulo 2^8", TEXTS),
+    ("buffer long enough, yet not modulo 2^12", TEXTS),
+    ("buffer long enough, yet not modulo 2^16", TEXTS),
+    ("buffer of more than 4096 bytes", TEXTS),
     (
         "buffer",
         &[
-            "exactly the length",
-            "one byte short",
             "room to spare",
             "no bytes for an empty text",
+            "no bytes for a group above 63",
+            "no bytes for a group not live",
             "no bytes for an absent file",
+            "no bytes for a process outside 1 to 256",
+            "no bytes for a process not live",
         ],
     ),
+    ("read, last byte of the name off by one", NAMES),
+    ("read, name a byte less", NAMES),
+    ("read, name a byte more", NAMES),
+    ("read, first byte of the name changed", NAMES),
+    ("read, name in capitals", NAMES),
+    ("written, last byte of the name off by one", NAMES),
+    ("written, name a byte less", NAMES),
+    ("written, name a byte more", NAMES),
+    ("written, first byte of the name changed", NAMES),
+    ("written, name in capitals", NAMES),
+    ("line too long, yet not modulo 2^8", WRITTEN),
+    ("line too long, yet not modulo 2^9", WRITTEN),
+    ("line too long, yet not modulo 2^16", WRITTEN),
+    ("line of 25 words, the last one decides", &["joins", "leaves", "bad"]),
     (
         "question",
         &[
@@ -52,7 +113,46 @@ pub const KINDS: &[(&str, &[&str])] = &[
             "last word bad",
             "more than 128 bytes",
             "more than 4096 bytes",
+            "more than 65536 bytes",
+            "more than 1024 words",
             "bad after 4096 bytes",
+            "bad after 16384 bytes",
+            "bad after 65536 bytes",
+            "bad after 1024 words",
+            "bad word of more than 65536 bytes",
+            "none bad in more than 65536 bytes",
+        ],
+    ),
+    ("release of more than own pages modulo", &["2^16", "2^20", "2^22", "2^24", "2^32"]),
+    ("the same from the root", &["2^16", "2^20", "2^22", "2^24", "2^32"]),
+    ("the same with memory on nowhere", &["2^16", "2^20", "2^22", "2^24"]),
+    (
+        "charge at depth 8",
+        &[
+            "succeeded",
+            DEPTHS[0],
+            DEPTHS[1],
+            DEPTHS[2],
+            DEPTHS[3],
+            DEPTHS[4],
+            DEPTHS[5],
+            DEPTHS[6],
+            DEPTHS[7],
+            DEPTHS[8],
+        ],
+    ),
+    (
+        "fork at depth 8",
+        &[
+            "succeeded",
+            DEPTHS[1],
+            DEPTHS[2],
+            DEPTHS[3],
+            DEPTHS[4],
+            DEPTHS[5],
+            DEPTHS[6],
+            DEPTHS[7],
+            DEPTHS[8],
         ],
     ),
 ];
@@ -122,32 +222,181 @@ pub fn values(model: &Model) -> Vec<Kind> {
     kinds
 }
 
-/// The kinds of a call that is a question: how long its buffer is, or what its line has.
-pub fn question(model: &Model, call: &Call) -> Vec<Kind> {
+/// The kinds of a call, by the checks that hold.
+pub fn of_call(model: &Model, call: &Call, held: &[&'static Check]) -> Vec<Kind> {
     match call {
-        Call::Read { room, .. } | Call::Membership { room, .. } => {
-            buffer(model, call, *room).into_iter().map(|name| kind("buffer", name)).collect()
+        Call::Read { file, room, .. } => {
+            let file = String::from_utf8_lossy(file);
+            let mut kinds = buffer(model, call, held, &file, *room);
+            if held == [read::NO_SUCH_FILE] {
+                kinds.extend(near("read", &file));
+            }
+            kinds
+        }
+        Call::Membership { room, .. } => buffer(model, call, held, "membership", *room),
+        Call::WriteProcs { line, .. } if held == [write_procs::LONG_LINE] => {
+            long_line("cgroup.procs", line.len())
+        }
+        Call::WriteSubtreeControl { line, .. } if held == [write_subtree_control::LONG_LINE] => {
+            long_line("cgroup.subtree_control", line.len())
+        }
+        Call::WriteSubtreeControl { group, line, .. } => many_words(model, *group, line, held),
+        Call::WriteSetting { file, line, .. } => {
+            let file = String::from_utf8_lossy(file);
+            match held {
+                [check] if *check == write_setting::LONG_LINE => long_line(&file, line.len()),
+                [check] if *check == write_setting::NOT_A_SETTING => near("written", &file),
+                _ => vec![],
+            }
         }
         Call::FirstBadWord { line } => {
             asked(line).into_iter().map(|name| kind("question", name)).collect()
         }
+        Call::Release { group, pages } if held.is_empty() => released(model, *group, *pages),
+        Call::Charge { process, .. } => at_depth_8(model, call, *process, "charge at depth 8"),
+        Call::Fork { parent, .. } => at_depth_8(model, call, *parent, "fork at depth 8"),
         _ => vec![],
     }
 }
 
-fn buffer(model: &Model, call: &Call, given: usize) -> Option<&'static str> {
+/// The checks before a buffer is asked for, and what it is to have no bytes there.
+const NO_BYTES: [(&Check, &str); 7] = [
+    (read::ABOVE_63, "no bytes for a group above 63"),
+    (read::NOT_LIVE, "no bytes for a group not live"),
+    (read::NO_SUCH_FILE, "no bytes for an absent file"),
+    (read::EVENTS_ON_ROOT, "no bytes for an absent file"),
+    (read::NOT_ON, "no bytes for an absent file"),
+    (membership::OUTSIDE, "no bytes for a process outside 1 to 256"),
+    (membership::NOT_LIVE, "no bytes for a process not live"),
+];
+
+/// How long the buffer is, beside the text.
+fn buffer(
+    model: &Model,
+    call: &Call,
+    held: &[&'static Check],
+    text: &str,
+    given: usize,
+) -> Vec<Kind> {
+    let refused = NO_BYTES.iter().find(|(check, _)| held.first() == Some(check));
+    if let Some((_, name)) = refused {
+        return if given == 0 { vec![kind("buffer", name)] } else { vec![] };
+    }
     let mut roomy = call.clone();
     if let Call::Read { room, .. } | Call::Membership { room, .. } = &mut roomy {
         *room = 1024;
     }
-    let answer = roomy.on(&mut model.clone(), 0);
-    match (answer.number, answer.told[0] as usize) {
-        (0, 0) if given == 0 => Some("no bytes for an empty text"),
-        (0, length) if given == length => Some("exactly the length"),
-        (0, length) if given + 1 == length => Some("one byte short"),
-        (0, length) if given > length => Some("room to spare"),
-        (2, _) if given == 0 => Some("no bytes for an absent file"),
-        _ => None,
+    let length = roomy.on(&mut model.clone(), 0).told[0] as usize;
+    if length == 0 {
+        return if given == 0 {
+            vec![kind("buffer", "no bytes for an empty text")]
+        } else {
+            vec![]
+        };
+    }
+    let mut kinds = vec![];
+    let mut note = |holds: bool, what: &str| {
+        if holds {
+            kinds.push(kind(what, text));
+        }
+    };
+    note(given == length, "buffer of exactly the length");
+    note(given + 1 == length, "buffer one byte short");
+    for (bits, what) in [
+        (8, "buffer long enough, yet not modulo 2^8"),
+        (12, "buffer long enough, yet not modulo 2^12"),
+        (16, "buffer long enough, yet not modulo 2^16"),
+    ] {
+        note(given >= length && given % (1 << bits) < length, what);
+    }
+    note(given > 4096, "buffer of more than 4096 bytes");
+    if given > length {
+        kinds.push(kind("buffer", "room to spare"));
+    }
+    kinds
+}
+
+/// A name that is not quite a file's: whose, and how.
+fn near(done: &str, name: &str) -> Vec<Kind> {
+    let mut kinds = vec![];
+    let bytes = name.as_bytes();
+    for file in NAMES {
+        let (right, last) = (file.as_bytes(), file.len() - 1);
+        let is_long = bytes.len() == right.len();
+        let is_off =
+            is_long && bytes[..last] == right[..last] && bytes[last].abs_diff(right[last]) == 1;
+        for (holds, how) in [
+            (is_off, "last byte of the name off by one"),
+            (bytes == &right[..last], "name a byte less"),
+            (bytes.len() == right.len() + 1 && bytes.starts_with(right), "name a byte more"),
+            (is_long && bytes[1..] == right[1..], "first byte of the name changed"),
+            (bytes == right.to_ascii_uppercase(), "name in capitals"),
+        ] {
+            if holds {
+                kinds.push(kind(&format!("{done}, {how}"), file));
+            }
+        }
+    }
+    kinds
+}
+
+/// A line that is refused for its length alone, and would not be if that were kept in fewer bits.
+fn long_line(file: &str, length: usize) -> Vec<Kind> {
+    let bits = [
+        (8, "line too long, yet not modulo 2^8"),
+        (9, "line too long, yet not modulo 2^9"),
+        (16, "line too long, yet not modulo 2^16"),
+    ];
+    let narrow = bits.into_iter().filter(|(bits, _)| length % (1 << bits) <= 128);
+    narrow.map(|(_, what)| kind(what, file)).collect()
+}
+
+/// A control line that the last of its 25 words decides.
+fn many_words(model: &Model, group: u64, line: &[u8], held: &[&Check]) -> Vec<Kind> {
+    let words = words(line);
+    let Some((last, before)) = words.split_last() else { return vec![] };
+    let is_good = before.iter().all(|word| control_word(word).is_some());
+    if words.len() < 25 || !is_good {
+        return vec![];
+    }
+    let set = model.group(group).map(|kept| kept.set);
+    let what = "line of 25 words, the last one decides";
+    match (control_word(last), set) {
+        (None, _) if held == [write_subtree_control::BAD_WORD] => vec![kind(what, "bad")],
+        (Some((k, true)), Some(set)) if held.is_empty() && !set[k] => vec![kind(what, "joins")],
+        (Some((k, false)), Some(set)) if held.is_empty() && set[k] => vec![kind(what, "leaves")],
+        _ => vec![],
+    }
+}
+
+/// A release that would be refused if own pages were kept in fewer bits.
+fn released(model: &Model, group: u64, pages: u64) -> Vec<Kind> {
+    let own = model.group(group).map_or(0, |kept| kept.own_pages);
+    let is_nowhere = group != 0 && model.chain(group).iter().all(|&up| !model.is_on(MEMORY, up));
+    let mut kinds = vec![];
+    for (bits, name) in NARROW.into_iter().filter(|(bits, _)| own % (1 << bits) < pages) {
+        kinds.push(kind("release of more than own pages modulo", name));
+        if group == 0 {
+            kinds.push(kind("the same from the root", name));
+        }
+        if is_nowhere && bits < 32 {
+            kinds.push(kind("the same with memory on nowhere", name));
+        }
+    }
+    kinds
+}
+
+/// A charge or a fork by a process at depth 8: at which depth it is stopped, if it is.
+fn at_depth_8(model: &Model, call: &Call, process: u64, what: &str) -> Vec<Kind> {
+    let depth = model.process(process).map(|kept| model.depth(kept.group));
+    if depth != Some(8) {
+        return vec![];
+    }
+    let answer = call.on(&mut model.clone(), 0);
+    match answer.number {
+        0 => vec![kind(what, "succeeded")],
+        11 | 12 => vec![kind(what, DEPTHS[model.depth(answer.told[0])])],
+        _ => vec![],
     }
 }
 
@@ -161,15 +410,24 @@ fn asked(line: &[u8]) -> Vec<&'static str> {
         Some(place) if place + 1 == words.len() => "last word bad",
         Some(_) => "a middle word bad",
     }];
-    if line.len() > 128 {
-        names.push("more than 128 bytes");
-    }
-    if line.len() > 4096 {
-        names.push("more than 4096 bytes");
-    }
     let before = |place: usize| words[place].as_ptr() as usize - line.as_ptr() as usize;
-    if bad.is_some_and(|place| before(place) >= 4096) {
-        names.push("bad after 4096 bytes");
+    let is_bad_after = |bytes| bad.is_some_and(|place| before(place) >= bytes);
+    let is_huge = line.len() > 65_536;
+    for (holds, name) in [
+        (line.len() > 128, "more than 128 bytes"),
+        (line.len() > 4_096, "more than 4096 bytes"),
+        (is_huge, "more than 65536 bytes"),
+        (words.len() > 1_024, "more than 1024 words"),
+        (is_bad_after(4_096), "bad after 4096 bytes"),
+        (is_bad_after(16_384), "bad after 16384 bytes"),
+        (is_bad_after(65_536), "bad after 65536 bytes"),
+        (bad.is_some_and(|place| place >= 1_024), "bad after 1024 words"),
+        (bad.is_some_and(|place| words[place].len() > 65_536), "bad word of more than 65536 bytes"),
+        (is_huge && bad.is_none(), "none bad in more than 65536 bytes"),
+    ] {
+        if holds {
+            names.push(name);
+        }
     }
     names
 }

@@ -7,6 +7,8 @@
 //! - [`calls`], [`call`]: what both answer, as a trait and as a value
 //! - [`generate`]: lists of calls from a seed
 //! - [`crossed`], [`heap`]: two lists more, for pairs of checks and for many pages
+//! - [`sizes`], [`names`], [`depths`]: parts of the first: long lines and large buffers, near names,
+//!   limits above depth 8
 //! - [`compare`], [`explore`]: one list, and many
 //! - [`counts`], [`kinds`]: what the lists came to, and what they never did
 //! - [`shrink`]: a short list from a long one
@@ -18,6 +20,7 @@ pub mod checks;
 pub mod compare;
 pub mod counts;
 pub mod crossed;
+pub mod depths;
 pub mod explore;
 pub mod fault;
 pub mod generate;
@@ -25,8 +28,10 @@ pub mod heap;
 pub mod kinds;
 pub mod linked;
 pub mod model;
+pub mod names;
 mod random;
 pub mod shrink;
+pub mod sizes;
 
 pub use call::Call;
 pub use calls::Calls;

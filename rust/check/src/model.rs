@@ -3,8 +3,10 @@
 //! groups and all processes. The words are the paper's. It is slow and knows no C.
 //!
 //! Each call has its checks as a list, in the paper's order, and what it does when none of them
-//! holds. A check can be asked even where an earlier one holds: of a group that is not live
-//! nothing is true, and only user 0 may write it.
+//! holds. A check can be asked even where an earlier one holds: of a group or a process that is not
+//! live nothing is true, and only user 0 may write the one and move the other. Where the paper joins
+//! two causes under one number, the second is asked of what the first lets pass: "not live" of
+//! processes in range, "not on" of groups that are live.
 
 use crate::checks::Check;
 

@@ -1,14 +1,14 @@
 //! The largest machine, filled to the last page: figures that a list of a few hundred calls does
-//! not come to. The answers are the paper's, the figures arithmetic; up to a little more than 2^32
-//! pages the model is asked as well.
+//! not come to. The answers are the paper's, the figures arithmetic. Up to 2^32 pages the heap of the
+//! comparison goes along with the model.
 
 #[macro_use]
 mod common;
 
-use common::rows::{admit, charge, control, exit, make, procs, release, remove, setting};
+use common::rows::{admit, control, exit, make, procs, release, remove, setting};
 use common::{read, shown};
 use shootspiral_check::calls::NO_GROUP;
-use shootspiral_check::{Call, Calls, Linked, agree};
+use shootspiral_check::{Call, Calls, Linked};
 
 const MACHINE: u64 = 1 << 40;
 const MOST: u64 = 1 << 20;
@@ -107,33 +107,4 @@ fn brim<H: Calls>() {
     assert_eq!(charged(&mut host, 1), (12, 0, 9));
     uses(&host, 1..=8, machine);
     assert_eq!(read(&host, 0, "memory.current"), Err(2));
-}
-
-/// Past 2^22, 2^24 and 2^32 pages, every file compared after every call: limits about the usage on
-/// each group in turn, releases, and the pages passed up.
-#[test]
-fn past_four_thousand_million_pages() {
-    let charges = (1 << 12) + 2;
-    let usage = charges * MOST;
-    let mut calls = ladder();
-    calls.extend((0..charges).map(|_| charge(5, MOST)));
-    for group in 1..=8 {
-        for room in [0, 1, MOST - 1] {
-            let limit = (usage + room) * 4096;
-            calls.push(setting(0, group, "memory.max", limit.to_string()));
-            calls.extend([charge(5, MOST), charge(5, room + 1)]);
-        }
-        let below = (usage - 1) * 4096;
-        for bytes in [below, below + 1, 1 << 44, (1 << 44) - 1] {
-            calls.push(setting(0, group, "memory.max", bytes.to_string()));
-            calls.push(charge(5, 1));
-        }
-        calls.push(setting(0, group, "memory.max", "max"));
-    }
-    calls.extend([release(7, 1), release(8, MOST), charge(5, MOST), exit(5)]);
-    for group in (4..=8).rev() {
-        calls.extend([release(group, MOST), remove(0, group), release(group, 1)]);
-    }
-    calls.extend([release(2, 1), release(3, MOST), release(3, 1)]);
-    agree::<Linked>(MACHINE, &calls);
 }

@@ -3,6 +3,7 @@
 
 use std::collections::BTreeMap;
 
+use shootspiral_check::checks::{Check, TABLE, besides, with, write_procs, write_setting};
 use shootspiral_check::generate::Generator;
 use shootspiral_check::model::{CONTROLLERS, CPU, MEMORY, Model, PIDS};
 use shootspiral_check::{Call, Calls};
@@ -10,8 +11,13 @@ use shootspiral_check::{Call, Calls};
 const SEEDS: std::ops::RangeInclusive<u64> = 1..=100;
 const CALLS: usize = 300;
 
+/// How often they must come to each pair of checks but one: a user's own process, below a group of
+/// the user's, is put into another's group there that has a set.
+const OFTEN: u64 = 2;
+const SELDOM: (&Check, &Check) = (write_procs::MAY_NOT_WRITE, write_procs::HAS_SET);
+
 /// Each place, and how often a run must come to it.
-const PLACES: [(&str, u64); 43] = [
+const PLACES: [(&str, u64); 45] = [
     ("make under a group not live", 20),
     ("remove of a group not live", 20),
     ("hand_over of a group not live", 20),
@@ -28,7 +34,9 @@ const PLACES: [(&str, u64); 43] = [
     ("a group with pages removed at depth 4 or below", 5),
     ("a group made under depth 7", 20),
     ("a group not made under depth 8", 20),
-    ("a charge above 2^24 pages", 50),
+    ("a charge at depth 8 stopped at depth 1 to 6", 5),
+    ("a fork at depth 8 stopped at depth 1 to 6", 3),
+    ("a charge above 2^24 pages", 20),
     ("a limit that stops a charge above 2^24 pages", 10),
     ("a release from more than 2^22 own pages", 20),
     ("a group with more than 2^22 pages removed", 2),
@@ -38,12 +46,12 @@ const PLACES: [(&str, u64); 43] = [
     ("two words to memory.max", 10),
     ("two words to pids.max", 10),
     ("two words to cpu.weight", 10),
-    ("three words to cpu.max", 10),
-    ("memory.max with / or :", 5),
-    ("pids.max with / or :", 5),
-    ("cpu.weight with / or :", 5),
-    ("cpu.max with / or :", 5),
-    ("cgroup.procs with / or :", 5),
+    ("three words to cpu.max", 5),
+    ("memory.max with / or :", 3),
+    ("pids.max with / or :", 3),
+    ("cpu.weight with / or :", 3),
+    ("cpu.max with / or :", 3),
+    ("cgroup.procs with / or :", 3),
     ("a fork of the 255th process inside", 3),
     ("a fork of the 256th process inside", 3),
     ("a fork stopped at 255 processes", 3),
@@ -84,6 +92,33 @@ fn every_place_is_come_to() {
     assert!(rare.is_empty(), "{rare:#?}");
 }
 
+/// Pairs of checks whose order shows, by the seeds alone.
+#[test]
+fn pairs_of_checks_are_come_to() {
+    let mut counts: BTreeMap<_, u64> = BTreeMap::new();
+    for seed in SEEDS {
+        let mut generator = Generator::new(seed);
+        let mut model = Model::fresh(generator.machine());
+        for _ in 0..CALLS {
+            let call = generator.next(&model);
+            for pair in besides(&model.held(&call)) {
+                *counts.entry(pair).or_default() += 1;
+            }
+            call.on(&mut model, 0);
+        }
+    }
+    let mut rare = vec![];
+    for &first in TABLE.iter().flat_map(|(_, checks)| *checks) {
+        for second in with(first) {
+            let count = counts.get(&(first, second)).copied().unwrap_or(0);
+            if count < OFTEN && (first, second) != SELDOM {
+                rare.push(format!("{}: {first}, {second}: {count}", first.call()));
+            }
+        }
+    }
+    assert!(rare.is_empty(), "{rare:#?}");
+}
+
 /// The places that a call comes to, by the model before it and by its answer.
 fn places(model: &Model, call: &Call, number: u32, told: &[u64]) -> Vec<String> {
     let mut places = absent(model, call);
@@ -93,6 +128,7 @@ fn places(model: &Model, call: &Call, number: u32, told: &[u64]) -> Vec<String> 
         }
     };
     let own = |group: u64| model.group(group).map_or(0, |kept| kept.own_pages);
+    let refused_by = model.held(call).first().copied();
     match call {
         Call::Make { parent, .. } => {
             note(number == 11, "a group not made under depth 8");
@@ -104,7 +140,9 @@ fn places(model: &Model, call: &Call, number: u32, told: &[u64]) -> Vec<String> 
             let is_rich = number == 0 && own(*group) > 1 << 22;
             note(is_rich, "a group with more than 2^22 pages removed");
         }
-        Call::Charge { .. } => {
+        Call::Charge { process, .. } => {
+            let is_far = is_far_below(model, *process, told[0]);
+            note(number == 12 && is_far, "a charge at depth 8 stopped at depth 1 to 6");
             let many = 1 << 24;
             note(number == 0 && model.usage(0) > many, "a charge above 2^24 pages");
             let stops = number == 12 && told[0] != 0 && model.usage(told[0]) > many;
@@ -119,20 +157,25 @@ fn places(model: &Model, call: &Call, number: u32, told: &[u64]) -> Vec<String> 
                 note(true, &format!("{name} leaves ten children with settings"));
             }
         }
-        Call::WriteSetting { file, line, .. } if number == 22 => {
+        Call::WriteSetting { file, line, .. } => {
             let words = line.split(|&byte| byte == b' ').filter(|word| !word.is_empty()).count();
             let file = String::from_utf8_lossy(file);
-            note(words == 2, &format!("two words to {file}"));
-            note(words == 3, &format!("three words to {file}"));
-            note(is_beside_digits(line), &format!("{file} with / or :"));
+            let is_more = refused_by == Some(write_setting::MORE_WORDS);
+            note(is_more && words == 2, &format!("two words to {file}"));
+            note(is_more && words == 3, &format!("three words to {file}"));
+            let malformed = [write_setting::MALFORMED, write_setting::PERIOD_MALFORMED];
+            let is_malformed = refused_by.is_some_and(|check| malformed.contains(&check));
+            note(is_malformed && is_beside_digits(line), &format!("{file} with / or :"));
         }
         Call::WriteProcs { user, group, line } => {
-            note(number == 22 && is_beside_digits(line), "cgroup.procs with / or :");
+            let is_malformed = refused_by == Some(write_procs::NOT_A_NUMBER);
+            note(is_malformed && is_beside_digits(line), "cgroup.procs with / or :");
             let is_owner = model.group(*group).is_some_and(|kept| kept.owner == *user);
             let process = std::str::from_utf8(line).ok().and_then(|line| line.trim().parse().ok());
             let moved = process.and_then(|process| model.process(process));
             let is_own = is_owner && moved.is_some_and(|kept| kept.user == *user);
-            note(number == 13 && is_own, "a move that the common ancestor's owner alone may make");
+            let is_refused = refused_by == Some(write_procs::MAY_NOT_WRITE_LOWEST);
+            note(is_refused && is_own, "a move that the common ancestor's owner alone may make");
         }
         Call::Fork { parent, .. } => {
             let group = model.process(*parent).map_or(0, |kept| kept.group);
@@ -143,6 +186,8 @@ fn places(model: &Model, call: &Call, number: u32, told: &[u64]) -> Vec<String> 
             note(number == 0 && inside == 254, "a fork of the 255th process inside");
             note(number == 0 && inside == 255, "a fork of the 256th process inside");
             note(number == 11 && inside == 255, "a fork stopped at 255 processes");
+            let is_far = is_far_below(model, *parent, told[0]);
+            note(number == 11 && is_far, "a fork at depth 8 stopped at depth 1 to 6");
         }
         Call::Read { group, room, .. } => {
             let all = model.holds(*group).count() == 256;
@@ -163,6 +208,12 @@ fn places(model: &Model, call: &Call, number: u32, told: &[u64]) -> Vec<String> 
         _ => {}
     }
     places
+}
+
+/// Whether the process is at depth 8, and the group at depth 1 to 6.
+fn is_far_below(model: &Model, process: u64, group: u64) -> bool {
+    let depth = model.process(process).map(|kept| model.depth(kept.group));
+    depth == Some(8) && (1..=6).contains(&model.depth(group))
 }
 
 /// Whether the line has one of the two bytes beside the digits.

@@ -52,7 +52,7 @@ const ALIASES: [u64; 6] = [64, 256, 257, 1 << 32, 1 << 40, 1 << 63];
 
 pub(super) const SETTINGS: [&[u8]; 4] = [b"memory.max", b"pids.max", b"cpu.weight", b"cpu.max"];
 
-pub(super) const ODD_FILES: [&[u8]; 12] = [
+const ODD_FILES: [&[u8]; 12] = [
     b"",
     b"memory.ma",
     b"memory.maxx",
@@ -195,15 +195,24 @@ impl Generator {
         }
     }
 
+    /// A name that is no file's; half the time nearly one.
+    pub(super) fn odd_file(&mut self) -> Vec<u8> {
+        if self.random.percent(50) {
+            return self.random.pick(&ODD_FILES).to_vec();
+        }
+        let name = self.random.pick(&FILES);
+        self.off_by_one(name)
+    }
+
     /// Mostly a group and a setting that is on there.
     pub(super) fn setting(&mut self, model: &Model) -> (u64, Vec<u8>) {
         if self.is_edge() {
             let file = if self.random.percent(50) {
-                self.random.pick(&ODD_FILES)
+                self.odd_file()
             } else {
-                self.random.pick(&FILES)
+                self.random.pick(&FILES).to_vec()
             };
-            return (self.group(model), file.to_vec());
+            return (self.group(model), file);
         }
         let file = self.random.pick(&SETTINGS);
         let controller = match file {

@@ -1,7 +1,7 @@
 //! Single calls, with arguments by dice.
 
 use super::Generator;
-use super::arguments::{ODD_FILES, PAGE_EDGES};
+use super::arguments::PAGE_EDGES;
 use super::taste::Kind;
 use crate::call::Call;
 use crate::compare::FILES;
@@ -80,11 +80,11 @@ impl Generator {
             Kind::Read => {
                 let group = self.group(model);
                 let file = match self.random.below(20) {
-                    0 => self.random.pick(&ODD_FILES),
-                    1..6 => b"cgroup.procs".as_slice(),
-                    _ => self.random.pick(&FILES),
+                    0 => self.odd_file(),
+                    1..6 => b"cgroup.procs".to_vec(),
+                    _ => self.random.pick(&FILES).to_vec(),
                 };
-                let question = Call::Read { group, file: file.to_vec(), room: 4096 };
+                let question = Call::Read { group, file, room: 4096 };
                 self.with_room(model, question)
             }
             Kind::Membership => {

@@ -14,6 +14,7 @@ impl Model {
         let process = number.and_then(|number| self.process(u64::try_from(number).ok()?));
         let lowest = process.and_then(|process| self.lowest_on_both(process.group, group));
         let has_set = self.group(group).is_some_and(|g| g.set != EMPTY);
+        let is_above = number.is_some_and(|number| number > u128::from(LAST_PROCESS));
         [
             (group > LAST_GROUP, write_procs::ABOVE_63),
             (self.group(group).is_none(), write_procs::NOT_LIVE),
@@ -23,11 +24,11 @@ impl Model {
             (words > 1, write_procs::MORE_WORDS),
             (words == 1 && number.is_none(), write_procs::NOT_A_NUMBER),
             (number == Some(0), write_procs::IS_0),
-            (number.is_some_and(|n| n > u128::from(LAST_PROCESS)), write_procs::ABOVE_256),
-            (number.is_some() && process.is_none(), write_procs::PROCESS_NOT_LIVE),
+            (is_above, write_procs::ABOVE_256),
+            (number.is_some() && !is_above && process.is_none(), write_procs::PROCESS_NOT_LIVE),
             (user != 0 && process.is_none_or(|p| p.user != user), write_procs::NOT_ITS_USER),
             (
-                lowest.is_some_and(|lowest| !self.may_write(user, lowest)),
+                user != 0 && lowest.is_none_or(|lowest| !self.may_write(user, lowest)),
                 write_procs::MAY_NOT_WRITE_LOWEST,
             ),
             (group != ROOT && has_set, write_procs::HAS_SET),
@@ -63,6 +64,7 @@ impl Model {
         let old = self.group(group).map_or(EMPTY, |g| g.set);
         let new = self.set_after(group, line);
         let is_wanted = |k: usize| new[k] && good().any(|(controller, _)| controller == k);
+        let is_missing = |k: usize| self.group(group).is_some() && !self.is_available(k, group);
         let in_childs_set = |k: usize| {
             self.children(group).any(|child| self.group(child).is_some_and(|g| g.set[k]))
         };
@@ -74,7 +76,7 @@ impl Model {
             (line.len() > LONGEST_LINE, write_subtree_control::LONG_LINE),
             (good().count() < words(line).len(), write_subtree_control::BAD_WORD),
             (
-                ALL.into_iter().any(|k| is_wanted(k) && !self.is_available(k, group)),
+                ALL.into_iter().any(|k| is_wanted(k) && is_missing(k)),
                 write_subtree_control::NOT_AVAILABLE,
             ),
             (
@@ -188,7 +190,7 @@ impl Model {
             (group > LAST_GROUP, write_setting::ABOVE_63),
             (self.group(group).is_none(), write_setting::NOT_LIVE),
             (form.is_none(), write_setting::NOT_A_SETTING),
-            (is_in_form(&|form| !self.is_on(form.controller, group)), write_setting::NOT_ON),
+            (is_in_form(&|form| self.is_off(form.controller, group)), write_setting::NOT_ON),
             (!self.may_write_parent(user, group), write_setting::MAY_NOT_WRITE_PARENT),
             (line.len() > LONGEST_LINE, write_setting::LONG_LINE),
             (words == 0, write_setting::NO_WORD),

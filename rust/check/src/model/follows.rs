@@ -29,6 +29,11 @@ impl Model {
         self.processes.get(usize::try_from(process).ok()?)?.as_ref()
     }
 
+    /// Whether the number is in range and the process is free.
+    pub(super) fn is_free(&self, process: u64) -> bool {
+        !is_outside(process) && self.process(process).is_none()
+    }
+
     pub fn live_groups(&self) -> impl Iterator<Item = u64> {
         (0..=LAST_GROUP).filter(|&group| self.group(group).is_some())
     }
@@ -83,6 +88,11 @@ impl Model {
     pub fn is_on(&self, controller: usize, group: u64) -> bool {
         let parent = self.parent(group).and_then(|parent| self.group(parent));
         parent.is_some_and(|parent| parent.set[controller])
+    }
+
+    /// Whether the group is live and the controller is not on there.
+    pub(super) fn is_off(&self, controller: usize, group: u64) -> bool {
+        self.group(group).is_some() && !self.is_on(controller, group)
     }
 
     /// The root has all three, others what is on.

@@ -60,7 +60,7 @@ impl Model {
     pub(super) fn fork_checks(&self, parent: u64, new: u64, asked: &Consulted) -> [Test; 6] {
         [
             (is_outside(parent), fork::PARENT_OUTSIDE),
-            (self.process(parent).is_none(), fork::PARENT_NOT_LIVE),
+            (self.is_free(parent), fork::PARENT_NOT_LIVE),
             (new == 0, fork::NEW_IS_0),
             (new > LAST_PROCESS, fork::NEW_ABOVE_256),
             (self.process(new).is_some(), fork::NEW_IS_LIVE),
@@ -78,7 +78,7 @@ impl Model {
     }
 
     pub(super) fn exit_checks(&self, process: u64) -> [Test; 2] {
-        [(is_outside(process), exit::OUTSIDE), (self.process(process).is_none(), exit::NOT_LIVE)]
+        [(is_outside(process), exit::OUTSIDE), (self.is_free(process), exit::NOT_LIVE)]
     }
 
     pub(super) fn try_exit(&mut self, process: u64) -> Verdict {
@@ -103,7 +103,7 @@ impl Model {
     pub(super) fn charge_checks(&self, process: u64, pages: u64, asked: &Consulted) -> [Test; 6] {
         [
             (is_outside(process), charge::OUTSIDE),
-            (self.process(process).is_none(), charge::NOT_LIVE),
+            (self.is_free(process), charge::NOT_LIVE),
             (pages == 0, charge::NO_PAGES),
             (pages > MOST_PAGES, charge::TOO_MANY_PAGES),
             (asked.full.is_some_and(|full| full != ROOT), charge::MEMORY_LIMIT),

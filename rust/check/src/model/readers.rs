@@ -64,7 +64,7 @@ impl Model {
             (self.group(group).is_none(), read::NOT_LIVE),
             (matches!(there, There::Nowhere), read::NO_SUCH_FILE),
             (matches!(there, There::BelowTheRoot) && group == ROOT, read::EVENTS_ON_ROOT),
-            (matches!(there, There::WhereOn(k) if !self.is_on(k, group)), read::NOT_ON),
+            (matches!(there, There::WhereOn(k) if self.is_off(k, group)), read::NOT_ON),
         ]
     }
 
@@ -107,7 +107,7 @@ impl Model {
     pub(super) fn membership_checks(&self, process: u64, line: &str, room: usize) -> [Test; 3] {
         [
             (is_outside(process), membership::OUTSIDE),
-            (self.process(process).is_none(), membership::NOT_LIVE),
+            (self.is_free(process), membership::NOT_LIVE),
             (line.len() > room, membership::SHORT_BUFFER),
         ]
     }

@@ -1,8 +1,8 @@
 //! Calls with every argument of any kind: each kind of number, user, line and buffer about as often
-//! as any other, so that two checks of a call fail at once about as often as one does.
+//! as any other, so that two checks of a call hold at once about as often as one does.
 
 use super::super::Generator;
-use super::super::arguments::{ODD_FILES, SETTINGS};
+use super::super::arguments::SETTINGS;
 use super::stage::{has_set, stacked};
 use crate::call::Call;
 use crate::compare::FILES;
@@ -50,11 +50,13 @@ impl Generator {
                 (1, _, Some(kept)) => kept.owner,
                 _ => self.any_user(sketch, group),
             };
-            let line = match self.random.below(8) {
+            let line = match self.random.below(10) {
                 0 => self.malformed_word(),
                 1 => format!("{process} {process}").into(),
                 2 => format!("{process:<129}").into(),
                 3 => format!("{process:0>129}").into(),
+                4 => self.random.pick(&["", " ", "\n"]).into(),
+                5 => self.random.pick(&["0", "000\n"]).into(),
                 _ => process.to_string().into(),
             };
             self.plan(sketch, Call::WriteProcs { user, group, line });
@@ -80,8 +82,8 @@ impl Generator {
             let group = self.any_group(sketch);
             let file = self.any_setting(sketch, group);
             let user = self.any_user(sketch, group);
-            let line = self.any_setting_line(file);
-            self.plan(sketch, Call::WriteSetting { user, group, file: file.to_vec(), line });
+            let line = self.any_setting_line(&file);
+            self.plan(sketch, Call::WriteSetting { user, group, file, line });
         }
     }
 
@@ -125,10 +127,10 @@ impl Generator {
             let group = self.any_group(sketch);
             let question = if self.random.percent(70) {
                 let file = match self.random.below(6) {
-                    0 => self.random.pick(&ODD_FILES),
-                    _ => self.random.pick(&FILES),
+                    0 => self.odd_file(),
+                    _ => self.random.pick(&FILES).to_vec(),
                 };
-                Call::Read { group, file: file.to_vec(), room: 4096 }
+                Call::Read { group, file, room: 4096 }
             } else {
                 Call::Membership { process: self.any_process(sketch), room: 4096 }
             };
@@ -162,7 +164,18 @@ impl Generator {
     pub(super) fn any_process(&mut self, sketch: &Model) -> u64 {
         let place = |process: u64| sketch.process(process).map_or(0, |kept| kept.group);
         let of_kind = match self.random.below(7) {
-            0 => Some(self.random.pick(&[0, 0, 257, 258, 512, 1 << 32, (1 << 32) + 1, u64::MAX])),
+            0 => Some(self.random.pick(&[
+                0,
+                0,
+                0,
+                0,
+                257,
+                258,
+                512,
+                1 << 32,
+                (1 << 32) + 1,
+                u64::MAX,
+            ])),
             1 => self.free_process(sketch),
             2..5 => {
                 self.random.one_of(sketch.live_processes().filter(|&process| place(process) != 0))
@@ -216,27 +229,28 @@ impl Generator {
     }
 
     /// A setting, more often one that is on there; now and then a file that is none.
-    fn any_setting(&mut self, sketch: &Model, group: u64) -> &'static [u8] {
+    fn any_setting(&mut self, sketch: &Model, group: u64) -> Vec<u8> {
         let is_on = |file: &&[u8]| {
             let name = file.split(|&byte| byte == b'.').next();
             let controller = CONTROLLERS.iter().position(|c| Some(c.as_bytes()) == name);
             sketch.group(group).is_some() && controller.is_some_and(|k| sketch.is_on(k, group))
         };
         let on: Vec<&[u8]> = SETTINGS.into_iter().filter(is_on).collect();
-        match self.random.below(8) {
-            0 => self.random.pick(&FILES),
-            1 => self.random.pick(&ODD_FILES),
-            2..4 => self.random.pick(&SETTINGS),
-            _ if on.is_empty() => self.random.pick(&SETTINGS),
-            _ => self.random.pick(&on),
+        match self.random.below(9) {
+            0 => self.random.pick(&FILES).to_vec(),
+            1 => self.odd_file(),
+            2 => b"cpu.max".to_vec(),
+            3..5 => self.random.pick(&SETTINGS).to_vec(),
+            _ if on.is_empty() => self.random.pick(&SETTINGS).to_vec(),
+            _ => self.random.pick(&on).to_vec(),
         }
     }
 
-    /// One word or more, each in range, out of range or malformed on its own.
+    /// Up to three words, each in range, out of range or malformed on its own.
     fn any_setting_line(&mut self, file: &[u8]) -> Vec<u8> {
         let mut words = vec![];
         let most = if file == b"cpu.max" { 2 } else { 1 };
-        for place in 0..self.random.pick(&[1, most, most, 2, 3]) {
+        for place in 0..self.random.pick(&[0, 1, most, most, most, 2, 3]) {
             let (fine, outside) = match (file, place) {
                 (b"memory.max", 0) => (["0", "8192"], ["4503599627370497", "9999999999999999999"]),
                 (b"pids.max", 0) => (["0", "max"], ["4194305", "4294967297"]),

@@ -5,10 +5,21 @@ use crate::call::Call;
 use crate::model::Model;
 
 impl Generator {
+    pub(super) fn squeeze_memory(&mut self, sketch: &mut Model) {
+        if let Some(process) = self.random.one_of(sketch.live_processes()) {
+            self.squeeze_memory_of(sketch, process);
+        }
+    }
+
+    pub(super) fn squeeze_pids(&mut self, sketch: &mut Model) {
+        if let Some(parent) = self.random.one_of(sketch.live_processes()) {
+            self.squeeze_pids_of(sketch, parent);
+        }
+    }
+
     /// A limit on some group of a process's chain, charges up to it and one past it, a limit below
     /// usage, releases and charges again.
-    pub(super) fn squeeze_memory(&mut self, sketch: &mut Model) {
-        let Some(process) = self.random.one_of(sketch.live_processes()) else { return };
+    pub(super) fn squeeze_memory_of(&mut self, sketch: &mut Model, process: u64) {
         let group = sketch.process(process).map_or(0, |kept| kept.group);
         let chain = sketch.chain(group);
         self.reach(sketch, group, "+memory");
@@ -30,8 +41,7 @@ impl Generator {
     }
 
     /// The same for processes; a move into a full group is not stopped.
-    pub(super) fn squeeze_pids(&mut self, sketch: &mut Model) {
-        let Some(parent) = self.random.one_of(sketch.live_processes()) else { return };
+    pub(super) fn squeeze_pids_of(&mut self, sketch: &mut Model, parent: u64) {
         let group = sketch.process(parent).map_or(0, |kept| kept.group);
         let chain = sketch.chain(group);
         self.reach(sketch, group, "+pids");

@@ -90,7 +90,7 @@ impl Generator {
     }
 
     /// One letter taken for the one before or after it, in the other case, left out or twice.
-    fn off_by_one(&mut self, word: &[u8]) -> Vec<u8> {
+    pub(in super::super) fn off_by_one(&mut self, word: &[u8]) -> Vec<u8> {
         let mut word = word.to_vec();
         let place = self.random.below(word.len() as u64) as usize;
         match self.random.below(8) {

@@ -50,6 +50,7 @@ impl Generator {
         self.plan(sketch, Call::HandOver { user: 0, group: parent, owner: user });
         self.migrate(sketch, user, process, below[0]);
     }
+
     /// Groups at three levels, most of them one user's, the others another's or user 0's; a process
     /// of each user; moves all over the groups, while some are handed over. Then a group and a
     /// process of users whose numbers differ in one bit.

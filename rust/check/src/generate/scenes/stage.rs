@@ -1,4 +1,4 @@
-//! What the checks of the calls need to fail at: furniture of the tree that stays.
+//! What the checks of the calls need to hold: furniture of the tree that stays.
 
 use super::super::Generator;
 use super::ALL;

@@ -6,7 +6,7 @@ use crate::model::Model;
 
 impl Generator {
     /// Downward from some group as far as it goes and one further, controllers on all the way, and
-    /// a process at the bottom.
+    /// a process at the bottom; then a limit above it, more often than not.
     pub(super) fn ladder(&mut self, sketch: &mut Model) {
         let mut bottom = if self.random.percent(50) { 0 } else { self.live_group(sketch) };
         let words = self.random.pick(&["+memory +pids +cpu", "+memory", "+pids", "+cpu +memory"]);
@@ -20,7 +20,12 @@ impl Generator {
             bottom = child;
         }
         let user = self.user();
-        self.settler(sketch, user, bottom);
+        let Some(process) = self.settler(sketch, user, bottom) else { return };
+        match self.random.below(3) {
+            0 => self.squeeze_memory_of(sketch, process),
+            1 => self.squeeze_pids_of(sketch, process),
+            _ => {}
+        }
     }
 
     /// Many forks of one process.
