@@ -139,6 +139,18 @@ impl Call {
     }
 }
 
+impl Answer {
+    /// The text that was delivered, where the call delivers one and was accepted.
+    pub fn text(&self) -> Option<Vec<u8>> {
+        if self.number != 0 || self.reply.is_empty() {
+            return None;
+        }
+        let length = usize::try_from(self.told[0]).unwrap_or(usize::MAX);
+        let room = self.reply.len() - 2 * MARGIN;
+        Some(self.reply[MARGIN..MARGIN + length.min(room)].to_vec())
+    }
+}
+
 /// A reply buffer between its margins, before the call.
 fn filled(room: usize, fill: u8) -> Vec<u8> {
     (0..room + 2 * MARGIN).map(|place| filling(place, fill)).collect()

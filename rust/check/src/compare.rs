@@ -28,7 +28,7 @@ pub const FILES: [&[u8]; 11] = [
 
 /// More than the longest list of processes, with bytes to spare after it; more than any other text;
 /// and the bytes on either side of such a buffer.
-const ROOM: usize = 960;
+pub const ROOM: usize = 960;
 const SMALL_ROOM: usize = 48;
 const MARGIN: usize = 16;
 const FILL: u8 = 0xee;
@@ -175,7 +175,11 @@ impl<H: Calls> Reads for H {
 
 /// Makes the calls on the model and on a fresh host. Answers the first call after which something
 /// differs, and what.
-pub fn replay<H: Calls>(machine: u64, calls: &[Call], host: H) -> Option<(usize, Box<Difference>)> {
+pub fn first_difference<H: Calls>(
+    machine: u64,
+    calls: &[Call],
+    host: H,
+) -> Option<(usize, Box<Difference>)> {
     let mut pair = Pair::beside(machine, host);
     for (place, call) in calls.iter().enumerate() {
         if let Err(difference) = pair.step(call) {
@@ -187,7 +191,7 @@ pub fn replay<H: Calls>(machine: u64, calls: &[Call], host: H) -> Option<(usize,
 
 /// Panics unless the host answers as the model does, call by call: for tests.
 pub fn agree<H: Calls>(machine: u64, calls: &[Call]) {
-    if let Some((place, difference)) = replay(machine, calls, H::fresh(machine)) {
+    if let Some((place, difference)) = first_difference(machine, calls, H::fresh(machine)) {
         panic!("call {place}, {}: {difference}", calls[place]);
     }
 }

@@ -5,7 +5,7 @@ use std::time::Duration;
 
 use crate::call::Call;
 use crate::calls::Calls;
-use crate::compare::{Difference, Pair, replay};
+use crate::compare::{Difference, Pair, first_difference};
 pub use crate::counts::Counts;
 use crate::crossed;
 use crate::generate::Generator;
@@ -115,9 +115,9 @@ impl Found {
     /// The same for those who cannot wait.
     pub fn shortest_within<H: Calls>(self, patience: Duration, fresh: impl Fn(u64) -> H) -> Found {
         let Found { name, machine, calls, difference } = self;
-        let replay = |calls: &[Call]| replay(machine, calls, fresh(machine));
-        let calls = shrink(calls, patience, |calls| replay(calls).map(|(place, _)| place + 1));
-        let difference = replay(&calls).map_or(difference, |(_, difference)| difference);
+        let rerun = |calls: &[Call]| first_difference(machine, calls, fresh(machine));
+        let calls = shrink(calls, patience, |calls| rerun(calls).map(|(place, _)| place + 1));
+        let difference = rerun(&calls).map_or(difference, |(_, difference)| difference);
         Found { name, machine, calls, difference }
     }
 

@@ -5,6 +5,7 @@
 use std::collections::BTreeMap;
 use std::fmt;
 
+use crate::around::Around;
 use crate::call::Call;
 use crate::calls::Calls;
 use crate::checks::Check;
@@ -101,9 +102,15 @@ impl Faulty {
     pub fn new(machine: u64, fault: Fault) -> Faulty {
         Faulty { model: Model::fresh(machine), slip: fault.slip, removed: BTreeMap::new() }
     }
+}
 
-    /// Makes a call that can change the tree.
-    fn make_call(&mut self, mut call: Call, told: &mut [u64; 2]) -> u32 {
+impl Around for Faulty {
+    /// A host that takes no call for another yet.
+    fn fresh(machine_pages: u64) -> Faulty {
+        Faulty::new(machine_pages, Fault { text: "none", slip: Slip::Instead(|_, _| {}) })
+    }
+
+    fn take(&mut self, mut call: Call, told: &mut [u64; 2]) -> u32 {
         match self.slip {
             Slip::Instead(change) => {
                 change(&self.model, &mut call);
@@ -132,12 +139,6 @@ impl Faulty {
         }
     }
 
-    /// The number of a call that tells nothing.
-    fn number(&mut self, call: Call) -> u32 {
-        self.make_call(call, &mut [0; 2])
-    }
-
-    /// Asks a question.
     fn ask(&self, mut call: Call, told: &mut [u64; 2], reply: &mut [u8]) -> u32 {
         match self.slip {
             Slip::Instead(change) => {
@@ -154,81 +155,5 @@ impl Faulty {
             }
             Slip::Outcome(_) | Slip::Swapped(..) => call.ask(&self.model, told, reply),
         }
-    }
-
-    /// Asks a question that tells one word.
-    fn show(&self, call: Call, told: &mut [u64; 1], reply: &mut [u8]) -> u32 {
-        let mut words = [told[0], 0];
-        let number = self.ask(call, &mut words, reply);
-        *told = [words[0]];
-        number
-    }
-}
-
-impl Calls for Faulty {
-    /// A host that takes no call for another yet.
-    fn fresh(machine_pages: u64) -> Faulty {
-        Faulty::new(machine_pages, Fault { text: "none", slip: Slip::Instead(|_, _| {}) })
-    }
-
-    fn make(&mut self, user: u32, parent: u64, group: u64) -> u32 {
-        self.number(Call::Make { user, parent, group })
-    }
-
-    fn remove(&mut self, user: u32, group: u64) -> u32 {
-        self.number(Call::Remove { user, group })
-    }
-
-    fn hand_over(&mut self, user: u32, group: u64, owner: u32) -> u32 {
-        self.number(Call::HandOver { user, group, owner })
-    }
-
-    fn write_procs(&mut self, user: u32, group: u64, line: &[u8]) -> u32 {
-        self.number(Call::WriteProcs { user, group, line: line.to_vec() })
-    }
-
-    fn write_subtree_control(&mut self, user: u32, group: u64, line: &[u8]) -> u32 {
-        self.number(Call::WriteSubtreeControl { user, group, line: line.to_vec() })
-    }
-
-    fn write_setting(&mut self, user: u32, group: u64, file: &[u8], line: &[u8]) -> u32 {
-        let (file, line) = (file.to_vec(), line.to_vec());
-        self.number(Call::WriteSetting { user, group, file, line })
-    }
-
-    fn admit(&mut self, process: u64, user: u32) -> u32 {
-        self.number(Call::Admit { process, user })
-    }
-
-    fn fork(&mut self, parent: u64, process: u64, told: &mut [u64; 2]) -> u32 {
-        self.make_call(Call::Fork { parent, process }, told)
-    }
-
-    fn exit(&mut self, process: u64) -> u32 {
-        self.number(Call::Exit { process })
-    }
-
-    fn charge(&mut self, process: u64, pages: u64, told: &mut [u64; 2]) -> u32 {
-        self.make_call(Call::Charge { process, pages }, told)
-    }
-
-    fn release(&mut self, group: u64, pages: u64) -> u32 {
-        self.number(Call::Release { group, pages })
-    }
-
-    fn read(&self, group: u64, file: &[u8], reply: &mut [u8], told: &mut [u64; 1]) -> u32 {
-        self.show(Call::Read { group, file: file.to_vec(), room: reply.len() }, told, reply)
-    }
-
-    fn membership(&self, process: u64, reply: &mut [u8], told: &mut [u64; 1]) -> u32 {
-        self.show(Call::Membership { process, room: reply.len() }, told, reply)
-    }
-
-    fn first_bad_word(line: &[u8], told: &mut [u64; 2]) {
-        Model::first_bad_word(line, told);
-    }
-
-    fn question(&self, line: &[u8], told: &mut [u64; 2]) {
-        self.ask(Call::FirstBadWord { line: line.to_vec() }, told, &mut []);
     }
 }

@@ -13,7 +13,10 @@
 //! - [`counts`], [`kinds`]: what the lists came to, and what they never did
 //! - [`shrink`]: a short list from a long one
 //! - [`fault`]: the model with one thing done otherwise, to show that the comparison finds it
+//! - [`around`]: hosts that stand around another, as those do
+//! - [`recorded`], [`replay`]: lists with the answers of real kernels, and how they are run
 
+pub mod around;
 pub mod call;
 pub mod calls;
 pub mod checks;
@@ -30,6 +33,8 @@ pub mod linked;
 pub mod model;
 pub mod names;
 mod random;
+pub mod recorded;
+pub mod replay;
 pub mod shrink;
 pub mod sizes;
 

@@ -1,17 +1,23 @@
 //! Compares Shootspiral with the model over many seeds, and prints the shortest list of calls it
-//! can find if they differ. The exit status is 0 where all agree, 1 where something differs, a
-//! fault is not found, or a row of the tables was not reached.
+//! can find if they differ; or runs lists with their answers through both. The exit status is 0
+//! where all agree, 1 where something differs, a fault is not found, or a row of the tables was not
+//! reached.
 
 use std::env;
+use std::fs;
 use std::process::ExitCode;
 use std::time::{Duration, Instant};
 
 use shootspiral_check::explore::{Counts, Found, search};
 use shootspiral_check::fault::{Fault, Faulty};
+use shootspiral_check::model::Model;
+use shootspiral_check::recorded::List;
+use shootspiral_check::replay::{Tally, replay};
 use shootspiral_check::{Calls, Linked};
 
 const USAGE: &str = "\
 shootspiral-check [SEEDS [CALLS [FIRST]]] [OPTION...]
+shootspiral-check replay FILE...
 
   SEEDS   how many lists of calls to compare (100)
   CALLS   how many calls each has (300)
@@ -22,7 +28,10 @@ shootspiral-check [SEEDS [CALLS [FIRST]]] [OPTION...]
               that both hold and to each kind of what is read; fail where they never did
   --fault N   compare a wrong host with the model, which has fault N and is then found
   --faults    find every fault, one after the other
-  --help      this text, and the faults";
+  --help      this text, and the faults
+
+  FILE    a list of calls with their answers, as tests/linux has them; the first line that library
+          and model do not both answer so is printed";
 
 /// That a fault is found matters more than how shortly.
 const PATIENCE: Duration = Duration::from_millis(300);
@@ -45,11 +54,20 @@ fn main() -> ExitCode {
         }
         return ExitCode::SUCCESS;
     }
+    if let Some((first, files)) = words.split_first()
+        && first == "replay"
+        && !files.is_empty()
+    {
+        return status(replay_all(files));
+    }
     let Some(task) = parse(&words) else {
         eprintln!("{USAGE}");
         return ExitCode::from(2);
     };
-    let passed = if task.faults.is_empty() { compare(&task) } else { find(&task) };
+    status(if task.faults.is_empty() { compare(&task) } else { find(&task) })
+}
+
+fn status(passed: bool) -> ExitCode {
     if passed { ExitCode::SUCCESS } else { ExitCode::from(1) }
 }
 
@@ -115,6 +133,37 @@ fn compare(task: &Task) -> bool {
         println!("    {row}");
     }
     missing.is_empty()
+}
+
+/// Runs lists. Answers whether library and model give every answer of theirs.
+fn replay_all(files: &[String]) -> bool {
+    let mut all = Tally::default();
+    for file in files {
+        match replay_file(file) {
+            Ok(tally) => {
+                println!("{file}: {tally}");
+                all += tally;
+            }
+            Err(why) => {
+                println!("{file}: {why}");
+                return false;
+            }
+        }
+    }
+    println!("{} lists, library and model alike: {all}", files.len());
+    true
+}
+
+/// Runs a list through both, and says of the first line that is not as it should be what is wrong.
+fn replay_file(file: &str) -> Result<Tally, String> {
+    let text = fs::read_to_string(file).map_err(|error| error.to_string())?;
+    let list = List::parse(&text).map_err(|misfit| misfit.to_string())?;
+    let library = replay(&list, Linked::fresh);
+    let library = library.map_err(|departure| format!("the library, {departure}"))?;
+    let model = replay(&list, Model::fresh);
+    let model = model.map_err(|departure| format!("the model, {departure}"))?;
+    assert_eq!(library, model, "one list has one tally");
+    Ok(library)
 }
 
 /// Looks for faults. Answers whether all are found.

@@ -4,7 +4,7 @@
 //! has it does not agree.
 
 use shootspiral_check::Call::*;
-use shootspiral_check::compare::{FILES, replay};
+use shootspiral_check::compare::{FILES, first_difference};
 use shootspiral_check::fault::{Fault, Faulty};
 use shootspiral_check::{Call, Linked, agree};
 
@@ -12,7 +12,8 @@ use shootspiral_check::{Call, Linked, agree};
 fn shows(fault: &str, machine: u64, calls: &[Call]) {
     agree::<Linked>(machine, calls);
     let found = Fault::named(fault).unwrap_or_else(|| panic!("no fault: {fault}"));
-    assert!(replay(machine, calls, Faulty::new(machine, found)).is_some(), "not shown: {fault}");
+    let shown = first_difference(machine, calls, Faulty::new(machine, found));
+    assert!(shown.is_some(), "not shown: {fault}");
 }
 
 #[test]
