@@ -140,14 +140,12 @@ impl Call {
 }
 
 impl Answer {
-    /// The text that was delivered, where the call delivers one and was accepted.
+    /// The text that was delivered; nothing where its length is told wrongly.
     pub fn text(&self) -> Option<Vec<u8>> {
-        if self.number != 0 || self.reply.is_empty() {
-            return None;
-        }
-        let length = usize::try_from(self.told[0]).unwrap_or(usize::MAX);
-        let room = self.reply.len() - 2 * MARGIN;
-        Some(self.reply[MARGIN..MARGIN + length.min(room)].to_vec())
+        let room = self.reply.len().saturating_sub(2 * MARGIN);
+        let length = usize::try_from(self.told[0]).ok().filter(|&length| length <= room)?;
+        let is_delivered = self.number == 0 && !self.reply.is_empty();
+        is_delivered.then(|| self.reply[MARGIN..MARGIN + length].to_vec())
     }
 }
 

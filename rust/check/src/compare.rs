@@ -78,8 +78,8 @@ impl<H: Calls> Pair<H> {
         self.survey()
     }
 
-    /// Makes a call on both and compares the answers only.
-    pub fn answer(&mut self, call: &Call) -> Result<(), Box<Difference>> {
+    /// Makes a call on both and compares the answers only. Answers what both do.
+    pub fn answer(&mut self, call: &Call) -> Result<Answer, Box<Difference>> {
         self.calls = self.calls.wrapping_add(1);
         self.users.extend(call.users().into_iter().flat_map(|user| [user, user.wrapping_add(1)]));
         let expected = call.on(&mut self.model, self.calls);
@@ -95,7 +95,7 @@ impl<H: Calls> Pair<H> {
         if before.is_some_and(|before| before != self.host.memory()) {
             return Err(Box::new(Difference::Changed));
         }
-        Ok(())
+        Ok(found)
     }
 
     /// Reads every file of every group and every membership line, the numbers just outside the

@@ -1,6 +1,6 @@
-//! Lists of calls with their answers, as the files of `tests/linux` have them. One call a line: its
-//! name and arguments, `=`, the number answered; then `group G` where a charge or a fork was refused
-//! for want of room, and the whole text where one was read. `docs/LINUX.md` has the form.
+//! Lists of calls with their answers, as the files of `tests/linux` have them; `docs/LINUX.md` has
+//! the form. What a word of a list means is [`parse_call`]'s to say, how much of an answer a list
+//! tells [`Reply::of`]'s: there a list from before a change of the calls is translated.
 
 use std::fmt;
 
@@ -12,137 +12,144 @@ mod tokens;
 
 use tokens::Tokens;
 
-/// A list, in the order of the file.
+/// The cases of a file, in order: one without a name, or several with different ones.
 pub struct List {
-    pub lines: Vec<Line>,
+    pub cases: Vec<Case>,
 }
 
-/// A line that is no comment.
-pub struct Line {
-    /// Its place in the file, from 1.
-    pub place: usize,
-    pub text: String,
-    /// The heading above it, empty if there is none.
-    pub case: String,
-    pub step: Step,
-}
-
-pub enum Step {
-    /// A fresh tree of a machine of so many pages.
-    Fresh(u64),
-    Call(Recorded),
+/// Calls from a fresh tree on.
+pub struct Case {
+    pub name: String,
+    /// The size of the machine.
+    pub pages: u64,
+    pub entries: Vec<Entry>,
 }
 
 /// A call with its answer.
-pub struct Recorded {
+pub struct Entry {
+    /// The line of the file, from 1, and its text.
+    pub line: usize,
+    pub text: String,
     pub call: Call,
-    pub answer: Said,
-    /// What Linux says, where that is something else.
+    pub reply: Reply,
+    /// What Linux does, where that is something else.
     pub linux: Option<Linux>,
-    /// The order of document 02 by which the answer is another than Linux's.
+    /// The order of document 02 by which the reply is another than Linux's.
     pub order: Option<u32>,
 }
 
 /// As much of an answer as a list tells.
 #[derive(Clone, PartialEq, Eq, Debug)]
-pub struct Said {
+pub struct Reply {
     pub number: u32,
-    /// The group that refused.
+    /// The group that had no room.
     pub group: Option<u64>,
-    /// What was read.
     pub text: Option<Vec<u8>>,
 }
 
 #[derive(Clone, PartialEq, Eq, Debug)]
 pub enum Linux {
-    Answers(Said),
-    /// Words, where no answer of the form says it.
+    Replies(Reply),
+    /// Words, where it is no reply to the call.
     Does(String),
 }
 
 /// A line that is not of the form, and why.
 #[derive(Debug)]
-pub struct Misfit {
-    pub place: usize,
-    pub why: String,
-}
-
-impl fmt::Display for Misfit {
-    fn fmt(&self, f: &mut fmt::Formatter<'_>) -> fmt::Result {
-        write!(f, "line {}: {}", self.place, self.why)
-    }
+pub struct ParseError {
+    line: usize,
+    text: String,
+    why: String,
 }
 
 type Parsed<T> = Result<T, String>;
 
+/// The numbers with which fork and charge say that a group has no room.
+const NO_PIDS: u32 = 11;
+const NO_MEMORY: u32 = 12;
+
+/// Orders of document 02.
+const ORDERS: std::ops::RangeInclusive<u32> = 1..=14;
+
 impl List {
     /// Every line is understood or refused: one that was passed over would look like one that held.
-    pub fn parse(text: &str) -> Result<List, Misfit> {
-        let mut lines: Vec<Line> = vec![];
-        let mut case = String::new();
-        let mut is_open = false;
-        for (place, text) in (1..).zip(text.lines()) {
-            let misfit = |why| Misfit { place, why };
-            if let Some(heading) = text.strip_prefix("## ") {
-                case = heading.to_string();
-                is_open = false;
-            }
-            if text.is_empty() || text.starts_with('#') {
-                continue;
-            }
-            let step = Step::parse(text).map_err(misfit)?;
-            is_open |= matches!(step, Step::Fresh(_));
-            if !is_open {
-                return Err(misfit("a list and each of its cases begin with a fresh tree".into()));
-            }
-            lines.push(Line { place, text: text.to_string(), case: case.clone(), step });
+    pub fn parse(file: &str) -> Result<List, ParseError> {
+        let mut list = List { cases: vec![] };
+        let mut heading = None;
+        for (line, text) in (1..).zip(file.lines()) {
+            let error = |why| ParseError { line, text: text.to_string(), why };
+            list.parse_line(line, text, &mut heading).map_err(error)?;
         }
-        Ok(List { lines })
+        let is_empty = |case: &Case| case.entries.is_empty();
+        if heading.is_some() || list.cases.is_empty() || list.cases.iter().any(is_empty) {
+            let why = "a list has cases, and each of them calls".to_string();
+            return Err(ParseError { line: file.lines().count(), text: String::new(), why });
+        }
+        Ok(list)
     }
 
-    pub fn recorded(&self) -> impl Iterator<Item = &Recorded> {
-        self.lines.iter().filter_map(|line| match &line.step {
-            Step::Call(recorded) => Some(recorded),
-            Step::Fresh(_) => None,
-        })
+    /// Adds a line. A heading names the case that the next line begins.
+    fn parse_line(&mut self, line: usize, text: &str, heading: &mut Option<String>) -> Parsed<()> {
+        if let Some(name) = text.strip_prefix("##") {
+            let name = name.strip_prefix(' ').filter(|name| !name.is_empty());
+            let name = name.ok_or("expected a space and a name after ##")?;
+            return match heading.replace(name.to_string()) {
+                None => Ok(()),
+                Some(other) => Err(format!("{other} has no calls")),
+            };
+        }
+        if text.is_empty() || text.starts_with('#') {
+            return Ok(());
+        }
+        let mut tokens = Tokens::of(text)?;
+        if tokens.keyword("fresh").is_ok() {
+            let (name, pages) = (heading.take().unwrap_or_default(), tokens.number()?);
+            if self.cases.iter().any(|case| case.name == name) {
+                return Err(format!("there is a case {name:?} already"));
+            }
+            self.cases.push(Case { name, pages, entries: vec![] });
+        } else {
+            let case = self.cases.last_mut().filter(|_| heading.is_none());
+            let case = case.ok_or("expected a fresh tree first")?;
+            case.entries.push(Entry::parse(line, text, &mut tokens)?);
+        }
+        tokens.end()
+    }
+
+    pub fn entries(&self) -> impl Iterator<Item = &Entry> {
+        self.cases.iter().flat_map(|case| &case.entries)
     }
 }
 
-impl Step {
-    fn parse(text: &str) -> Parsed<Step> {
-        let mut tokens = Tokens::of(text)?;
-        let name = tokens.word()?;
-        if name == "fresh" {
-            let pages = tokens.number()?;
-            tokens.end()?;
-            return Ok(Step::Fresh(pages));
-        }
-        let call = parse_call(&name, &mut tokens)?;
-        tokens.mark("=")?;
-        let answer = Said::parse(&call, &mut tokens)?;
+impl Entry {
+    fn parse(line: usize, text: &str, tokens: &mut Tokens) -> Parsed<Entry> {
+        let call = parse_call(tokens)?;
+        tokens.keyword("=")?;
+        let reply = Reply::parse(&call, tokens)?;
         let (mut linux, mut order) = (None, None);
-        while tokens.mark("|").is_ok() {
-            match tokens.word()?.as_str() {
-                "Linux" if linux.is_none() => linux = Some(Linux::parse(&call, &mut tokens)?),
-                "order" if order.is_none() => order = Some(tokens.number()?),
-                other => return Err(format!("no note begins with {other}")),
+        if tokens.keyword("|").is_ok() {
+            tokens.keyword("Linux")?;
+            linux = Some(Linux::parse(&call, tokens)?);
+            if tokens.keyword("|").is_ok() {
+                tokens.keyword("order")?;
+                order = Some(tokens.number()?);
             }
         }
-        tokens.end()?;
-        if linux == Some(Linux::Answers(answer.clone())) {
-            return Err("Linux says the same".into());
+        if linux == Some(Linux::Replies(reply.clone())) {
+            return Err("Linux replies the same".into());
         }
-        if order.is_some() && linux.is_none() {
-            return Err("an order is named, and not what Linux says".into());
+        if order.is_some_and(|order| !ORDERS.contains(&order)) {
+            return Err("document 02 has no such order".into());
         }
-        Ok(Step::Call(Recorded { call, answer, linux, order }))
+        Ok(Entry { line, text: text.to_string(), call, reply, linux, order })
     }
 }
 
 /// The arguments are those of document 01, in its order. A buffer has room for any text, unless its
 /// size is told.
-fn parse_call(name: &str, tokens: &mut Tokens) -> Parsed<Call> {
-    Ok(match name {
+fn parse_call(tokens: &mut Tokens) -> Parsed<Call> {
+    let name = tokens.word()?;
+    Ok(match name.as_str() {
         "make" => {
             Call::Make { user: tokens.number()?, parent: tokens.number()?, group: tokens.number()? }
         }
@@ -176,60 +183,64 @@ fn parse_call(name: &str, tokens: &mut Tokens) -> Parsed<Call> {
         "read" => Call::Read {
             group: tokens.number()?,
             file: tokens.word()?.into_bytes(),
-            room: tokens.number().unwrap_or(ROOM),
+            room: parse_room(tokens)?,
         },
-        "member" => {
-            Call::Membership { process: tokens.number()?, room: tokens.number().unwrap_or(ROOM) }
-        }
+        "member" => Call::Membership { process: tokens.number()?, room: parse_room(tokens)? },
         _ => return Err(format!("{name} is no call")),
     })
 }
 
-impl Said {
+fn parse_room(tokens: &mut Tokens) -> Parsed<usize> {
+    if tokens.is_next("=") {
+        return Ok(ROOM);
+    }
+    let room = tokens.number()?;
+    if room > ROOM { Err(format!("a buffer has {ROOM} bytes at most")) } else { Ok(room) }
+}
+
+impl Reply {
     /// What has to be told is told, and nothing else: the group exactly where a charge or a fork
     /// found no room, the text exactly where one was read.
-    fn parse(call: &Call, tokens: &mut Tokens) -> Parsed<Said> {
+    fn parse(call: &Call, tokens: &mut Tokens) -> Parsed<Reply> {
         let number = tokens.number()?;
-        let tells_group = match call {
-            Call::Fork { .. } => number == 11,
-            Call::Charge { .. } => number == 12,
-            _ => false,
-        };
-        let group = if tells_group {
-            tokens.mark("group")?;
-            Some(tokens.number()?)
-        } else {
-            None
-        };
-        let tells_text = number == 0 && matches!(call, Call::Read { .. } | Call::Membership { .. });
-        let text = if tells_text { Some(tokens.text()?) } else { None };
-        Ok(Said { number, group, text })
+        let (mut group, mut text) = (None, None);
+        match (call, number) {
+            (Call::Fork { .. }, NO_PIDS) | (Call::Charge { .. }, NO_MEMORY) => {
+                tokens.keyword("group")?;
+                group = Some(tokens.number()?);
+            }
+            (Call::Read { .. } | Call::Membership { .. }, 0) => text = Some(tokens.text()?),
+            _ => {}
+        }
+        Ok(Reply { number, group, text })
     }
 
-    /// Whether a host's answer to the call is this one.
-    pub fn fits(&self, call: &Call, answer: &Answer) -> bool {
-        *self == Said::of(call, answer)
-    }
-
-    /// An answer, as a list would tell it.
-    pub fn of(call: &Call, answer: &Answer) -> Said {
+    /// An answer, as a list tells it.
+    pub fn of(call: &Call, answer: &Answer) -> Reply {
         let asks_room = matches!(call, Call::Charge { .. } | Call::Fork { .. });
         let group = (asks_room && answer.told[0] != NO_GROUP).then_some(answer.told[0]);
-        Said { number: answer.number, group, text: answer.text() }
+        Reply { number: answer.number, group, text: answer.text() }
     }
 }
 
 impl Linux {
-    /// An answer, or words in brackets to the end of the line.
+    /// A reply, or words in brackets.
     fn parse(call: &Call, tokens: &mut Tokens) -> Parsed<Linux> {
-        match tokens.bracket() {
+        match tokens.in_brackets() {
+            Some(words) if words.is_empty() => Err("expected words in the brackets".into()),
             Some(words) => Ok(Linux::Does(words)),
-            None => Ok(Linux::Answers(Said::parse(call, tokens)?)),
+            None => Ok(Linux::Replies(Reply::parse(call, tokens)?)),
         }
     }
 }
 
-impl fmt::Display for Said {
+impl fmt::Display for ParseError {
+    fn fmt(&self, f: &mut fmt::Formatter<'_>) -> fmt::Result {
+        write!(f, "line {}: {}\n    {}", self.line, self.text, self.why)
+    }
+}
+
+impl fmt::Display for Reply {
     fn fmt(&self, f: &mut fmt::Formatter<'_>) -> fmt::Result {
         write!(f, "{}", self.number)?;
         if let Some(group) = self.group {

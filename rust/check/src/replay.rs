@@ -1,11 +1,11 @@
-//! A list with its answers, run through a host.
+//! Lists with their answers, asked of a host.
 
 use std::fmt;
 use std::ops::AddAssign;
 
-use crate::call::Answer;
 use crate::calls::Calls;
-use crate::recorded::{Line, List, Recorded, Said, Step};
+use crate::compare::{Difference, Pair};
+use crate::recorded::{Case, Entry, List, Reply};
 
 /// What was compared.
 #[derive(Clone, Copy, Default, PartialEq, Eq, Debug)]
@@ -19,52 +19,76 @@ pub struct Tally {
     pub differences: u64,
 }
 
-/// The first line that a host answers otherwise.
-pub struct Departure<'a> {
-    pub line: &'a Line,
-    pub answer: Answer,
+/// The first call that model and host do not both answer as the list does.
+pub struct Mismatch<'a> {
+    case: &'a Case,
+    entry: &'a Entry,
+    cause: Cause,
 }
 
-/// Makes the calls of a list, and compares each answer with the list's.
-pub fn replay<H: Calls>(
-    list: &List,
-    fresh: impl Fn(u64) -> H,
-) -> Result<Tally, Box<Departure<'_>>> {
+enum Cause {
+    /// Both reply so.
+    Reply(Reply),
+    Difference(Box<Difference>),
+}
+
+/// Asks a list of the model and of a host, both. Whatever else a call leaves has to be alike too:
+/// the whole reply buffer, the groups consulted, the tree after a refusal.
+pub fn replay<H: Calls>(list: &List, fresh: impl Fn(u64) -> H) -> Result<Tally, Box<Mismatch<'_>>> {
     let mut tally = Tally::default();
-    let mut host = fresh(0);
-    for line in &list.lines {
-        match &line.step {
-            Step::Fresh(pages) => host = fresh(*pages),
-            Step::Call(recorded) => {
-                // So that a reply buffer never holds what it held before the last call.
-                let fill = tally.calls as u8;
-                let answer = recorded.call.on(&mut host, fill);
-                if !recorded.answer.fits(&recorded.call, &answer) {
-                    return Err(Box::new(Departure { line, answer }));
-                }
-                tally.add(recorded);
+    for case in &list.cases {
+        let mut pair = Pair::beside(case.pages, fresh(case.pages));
+        for entry in &case.entries {
+            let mismatch = |cause| Box::new(Mismatch { case, entry, cause });
+            let answer = pair.answer(&entry.call);
+            let answer = answer.map_err(|difference| mismatch(Cause::Difference(difference)))?;
+            let reply = Reply::of(&entry.call, &answer);
+            if reply != entry.reply {
+                return Err(mismatch(Cause::Reply(reply)));
             }
+            tally.add(entry);
         }
     }
     Ok(tally)
 }
 
-impl fmt::Display for Departure<'_> {
+/// Asks a list of a host alone. Answers all calls whose replies are others.
+pub fn mismatches<H: Calls>(list: &List, fresh: impl Fn(u64) -> H) -> Vec<&Entry> {
+    let mut found = vec![];
+    for case in &list.cases {
+        let mut host = fresh(case.pages);
+        for (entry, fill) in case.entries.iter().zip((0..=u8::MAX).cycle()) {
+            let answer = entry.call.on(&mut host, fill);
+            if Reply::of(&entry.call, &answer) != entry.reply {
+                found.push(entry);
+            }
+        }
+    }
+    found
+}
+
+impl fmt::Display for Mismatch<'_> {
     fn fmt(&self, f: &mut fmt::Formatter<'_>) -> fmt::Result {
-        let Line { place, text, case, .. } = self.line;
-        let case = if case.is_empty() { String::new() } else { format!(", in {case}") };
-        write!(f, "line {place}{case}: {text}\n    the answer is {}", self.answer)
+        let Mismatch { case, entry, cause } = self;
+        let name = if case.name.is_empty() { String::new() } else { format!(", {}", case.name) };
+        writeln!(f, "line {}{name}: {}", entry.line, entry.text)?;
+        match cause {
+            Cause::Reply(reply) => write!(f, "model and host answer {reply}"),
+            Cause::Difference(difference) => difference.fmt(f),
+        }
     }
 }
 
 impl Tally {
-    fn add(&mut self, recorded: &Recorded) {
-        let Said { number, group, text } = &recorded.answer;
-        self.calls += 1;
-        self.refused += u64::from(*number != 0);
-        self.groups += u64::from(group.is_some());
-        self.texts += u64::from(text.is_some());
-        self.differences += u64::from(recorded.linux.is_some());
+    fn add(&mut self, entry: &Entry) {
+        let Reply { number, group, text } = &entry.reply;
+        *self += Tally {
+            calls: 1,
+            refused: u64::from(*number != 0),
+            groups: u64::from(group.is_some()),
+            texts: u64::from(text.is_some()),
+            differences: u64::from(entry.linux.is_some()),
+        };
     }
 }
 

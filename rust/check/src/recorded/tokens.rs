@@ -8,7 +8,7 @@ use super::Parsed;
 enum Token {
     Word(String),
     Text(Vec<u8>),
-    Bracket(String),
+    InBrackets(String),
 }
 
 /// The parts of a line that are left.
@@ -23,7 +23,7 @@ impl Tokens {
                 '"' => quoted(&rest[1..])?,
                 '(' => {
                     let (words, after) = rest[1..].split_once(')').ok_or("a bracket is open")?;
-                    (Token::Bracket(words.to_string()), after)
+                    (Token::InBrackets(words.to_string()), after)
                 }
                 _ => {
                     let (word, after) = rest.split_at(rest.find(' ').unwrap_or(rest.len()));
@@ -31,7 +31,7 @@ impl Tokens {
                 }
             };
             if !after.is_empty() && !after.starts_with(' ') {
-                return Err(format!("no space before {after}"));
+                return Err(format!("expected a space before {after}"));
             }
             tokens.push_back(token);
             rest = after.trim_start_matches(' ');
@@ -42,43 +42,63 @@ impl Tokens {
     pub(super) fn word(&mut self) -> Parsed<String> {
         match self.0.pop_front() {
             Some(Token::Word(word)) => Ok(word),
-            _ => Err("a word is missing".into()),
+            other => Err(expected("a word", other.as_ref())),
         }
     }
 
     pub(super) fn text(&mut self) -> Parsed<Vec<u8>> {
         match self.0.pop_front() {
             Some(Token::Text(text)) => Ok(text),
-            _ => Err("a text in quotes is missing".into()),
+            other => Err(expected("a text in quotes", other.as_ref())),
         }
     }
 
-    /// A number, if the next part is one; the part stays where it is not.
+    /// A number of decimal digits, without a sign.
     pub(super) fn number<N: FromStr>(&mut self) -> Parsed<N> {
-        let number = match self.0.front() {
-            Some(Token::Word(word)) => word.parse().ok(),
+        let token = self.0.pop_front();
+        let number = match &token {
+            Some(Token::Word(word)) if !word.starts_with('+') => word.parse().ok(),
             _ => None,
         };
-        self.0.pop_front_if(|_| number.is_some());
-        number.ok_or("a number is missing".into())
+        number.ok_or_else(|| expected("a number in range", token.as_ref()))
     }
 
     /// This very word; another stays.
-    pub(super) fn mark(&mut self, mark: &str) -> Parsed<()> {
-        let is_mark = |token: &mut Token| matches!(token, Token::Word(word) if word == mark);
-        self.0.pop_front_if(is_mark).map(drop).ok_or(format!("{mark} is missing"))
+    pub(super) fn keyword(&mut self, keyword: &str) -> Parsed<()> {
+        if self.is_next(keyword) {
+            self.0.pop_front();
+            Ok(())
+        } else {
+            Err(expected(keyword, self.0.front()))
+        }
+    }
+
+    pub(super) fn is_next(&self, keyword: &str) -> bool {
+        matches!(self.0.front(), Some(Token::Word(word)) if word == keyword)
     }
 
     /// Words in brackets, if they come next.
-    pub(super) fn bracket(&mut self) -> Option<String> {
-        match self.0.pop_front_if(|token| matches!(token, Token::Bracket(_))) {
-            Some(Token::Bracket(words)) => Some(words),
+    pub(super) fn in_brackets(&mut self) -> Option<String> {
+        match self.0.pop_front_if(|token| matches!(token, Token::InBrackets(_))) {
+            Some(Token::InBrackets(words)) => Some(words),
             _ => None,
         }
     }
 
     pub(super) fn end(&self) -> Parsed<()> {
-        if self.0.is_empty() { Ok(()) } else { Err("there is more than an answer".into()) }
+        match self.0.front() {
+            None => Ok(()),
+            other => Err(expected("the end of the line", other)),
+        }
+    }
+}
+
+fn expected(what: &str, found: Option<&Token>) -> String {
+    match found {
+        None => format!("expected {what}, found the end of the line"),
+        Some(Token::Word(word)) => format!("expected {what}, found {word}"),
+        Some(Token::Text(text)) => format!("expected {what}, found \"{}\"", text.escape_ascii()),
+        Some(Token::InBrackets(words)) => format!("expected {what}, found ({words})"),
     }
 }
 
@@ -107,10 +127,11 @@ fn escaped(chars: &mut Chars) -> Parsed<char> {
         'r' => '\r',
         't' => '\t',
         'u' => {
-            let digits = chars.as_str().get(..4).ok_or("four digits are missing")?;
-            *chars = chars.as_str()[4..].chars();
-            let code = u32::from_str_radix(digits, 16).map_err(|_| "no hexadecimal digits")?;
-            char::from_u32(code).ok_or("no character")?
+            let digits: String = chars.take(4).collect();
+            let is_code = digits.len() == 4 && digits.chars().all(|char| char.is_ascii_hexdigit());
+            let code = u32::from_str_radix(&digits, 16).ok().filter(|_| is_code);
+            let char = code.and_then(char::from_u32);
+            char.ok_or(format!("expected four hexadecimal digits, found {digits}"))?
         }
         _ => return Err(format!("no escape: \\{escape}")),
     })

@@ -1,0 +1,142 @@
+//! `docs/LINUX.md` held to the lists of `tests/linux` and to document 01: how many calls there are,
+//! a row for each case, and quotations. What a row says in its own words no test holds.
+
+#[path = "common/lists.rs"]
+mod lists;
+
+use lists::{AGREED, DIFFERENCES, all, cases, file, list};
+use shootspiral_check::recorded::List;
+use shootspiral_check::replay::{Tally, replay};
+use shootspiral_check::{Calls, Linked};
+
+/// A part of the page, by its heading.
+fn section(heading: &str) -> String {
+    let page = file("docs/LINUX.md");
+    let part = page.split("\n## ").find_map(|part| part.strip_prefix(heading));
+    part.unwrap_or_else(|| panic!("no part of the page: {heading}")).to_string()
+}
+
+/// The rows of the tables of a part, without heads and rules.
+fn rows(heading: &str) -> Vec<Vec<String>> {
+    let section = section(heading);
+    let lines: Vec<&str> = section.lines().filter(|line| line.starts_with('|')).collect();
+    let is_rule = |line: &str| line.starts_with("|---");
+    let is_head = |place: usize| lines.get(place + 1).is_some_and(|&next| is_rule(next));
+    let cells = |line: &str| -> Vec<String> {
+        line.trim_matches('|').split('|').map(|cell| cell.trim().to_string()).collect()
+    };
+    let is_row = |&(place, line): &(usize, &str)| !is_rule(line) && !is_head(place);
+    let rows = lines.iter().copied().enumerate().filter(is_row);
+    rows.map(|(_, line)| cells(line)).collect()
+}
+
+/// The table of the lists, and that of the rules where host and Linux agree.
+fn lists_and_rules() -> (Vec<Vec<String>>, Vec<Vec<String>>) {
+    let rows = rows("What is the same, and how it was tried");
+    rows.into_iter().partition(|row| row[0].starts_with("`tests/linux/"))
+}
+
+/// The text of a cell that is code and nothing else.
+fn code(cell: &str) -> String {
+    let code = cell.strip_prefix('`').and_then(|cell| cell.strip_suffix('`'));
+    code.unwrap_or_else(|| panic!("not a name in backticks: {cell}")).to_string()
+}
+
+/// The cases that rows of so many columns name in the last.
+fn named(rows: &[Vec<String>], columns: usize) -> Vec<String> {
+    let name = |row: &Vec<String>| {
+        assert_eq!(row.len(), columns, "{row:?}");
+        code(&row[columns - 1])
+    };
+    rows.iter().map(name).collect()
+}
+
+fn sorted<T: Ord>(mut list: Vec<T>) -> Vec<T> {
+    list.sort();
+    list
+}
+
+#[test]
+fn every_agreement_has_its_case() {
+    let (_, rules) = lists_and_rules();
+    assert_eq!(sorted(named(&rules, 3)), sorted(cases(AGREED)));
+}
+
+const DIFFERENCES_HEADING: &str = "All differences, by file and call";
+
+#[test]
+fn every_difference_has_its_case() {
+    let named = named(&rows(DIFFERENCES_HEADING), 4);
+    assert_eq!(sorted(named), sorted(cases(DIFFERENCES)));
+}
+
+/// The paragraph of document 01 at a call, or below a heading.
+fn paragraph(name: &str) -> String {
+    let paper = file("docs/papers/01-scope.md");
+    let below = paper.split("\n## ").find_map(|part| part.strip_prefix(&format!("{name}\n")));
+    let at = paper.lines().find(|line| line.contains(&format!("**{name}")));
+    let found = below.or(at).unwrap_or_else(|| panic!("document 01 has no paragraph {name}"));
+    found.replace("**", "")
+}
+
+/// Each difference names a paragraph of document 01 with words that stand there, and then perhaps
+/// an order of document 02.
+#[test]
+fn quotations_are_literal() {
+    for row in rows(DIFFERENCES_HEADING) {
+        let source = &row[2];
+        assert!(source.starts_with("01, "), "{source}");
+        for part in source.split("; 01, ").map(|part| part.trim_start_matches("01, ")) {
+            let (name, rest) = part.split_once(": *").unwrap_or_else(|| panic!("{source}"));
+            let (words, rest) = rest.split_once('*').unwrap_or_else(|| panic!("{source}"));
+            assert!(paragraph(name).contains(words), "{name}: {words}");
+            let order = rest.strip_prefix("; order ").map(|rest| rest.split(' ').next());
+            let is_order = |word: Option<&str>| {
+                word.and_then(|word| word.parse().ok()).is_some_and(|n: u32| (1..=14).contains(&n))
+            };
+            assert!(rest.is_empty() || order.is_some_and(is_order), "{source}");
+        }
+    }
+}
+
+/// Ten are met first, and each names cases.
+#[test]
+fn ten_are_met_first() {
+    let ten = section("The ten differences that are met first");
+    let items: Vec<&str> = ten.split(". **").collect();
+    let cases = cases(DIFFERENCES);
+    assert_eq!(items.len(), 11);
+    for (place, pair) in (1..).zip(items.windows(2)) {
+        assert!(pair[0].ends_with(&format!("\n{place}")), "{place} is out of order");
+        let in_code = pair[1].split('`').skip(1).step_by(2);
+        let named: Vec<&str> = in_code.filter(|name| !name.contains(' ')).collect();
+        let is_case = |name: &&str| cases.iter().any(|case| case == name);
+        assert!(!named.is_empty() && named.iter().all(is_case), "{place}: {named:?}");
+    }
+}
+
+/// A line that is taken away from a list is missed here.
+#[test]
+fn calls_are_counted() {
+    let counted = |name: &str| {
+        let tally = replay(&list(name), <Linked as Calls>::fresh).ok().expect("answered so");
+        let Tally { calls, refused, groups, texts, differences } = tally;
+        let counts = [calls, refused, groups, texts, differences].map(|count| count.to_string());
+        let mut row = vec![format!("`tests/linux/{name}`")];
+        row.extend(counts);
+        row
+    };
+    let (mut lists, _) = lists_and_rules();
+    for row in &mut lists {
+        row.pop();
+    }
+    assert_eq!(sorted(lists), sorted(all().map(counted).collect()));
+}
+
+#[test]
+fn commands_are_calls() {
+    for row in rows("The lists") {
+        let call = code(&row[0]);
+        assert!(List::parse(&format!("fresh 1\n{call} = 3\n")).is_ok(), "{call}");
+    }
+}
