@@ -699,7 +699,7 @@ impl Calls for Plain {
     }
 
     #[inline(never)]
-    fn first_bad_word(line: &[u8], told: &mut [u64; 2]) {
+    fn first_bad_word(&self, line: &[u8], told: &mut [u64; 2]) {
         let line = without_newline(line);
         let mut first = 0;
         for word in line.split(|&byte| byte == b' ') {

@@ -3,20 +3,21 @@
 use crate::call::Call;
 use crate::calls::Calls;
 
-/// The methods of [`Calls`] follow from these.
+/// The methods of [`Calls`] follow from these. Such a host has no memory of its own to show, so
+/// nothing is found of what a refusal changed in that of the host inside but by asking.
 pub trait Around: Clone {
     fn fresh(machine_pages: u64) -> Self;
 
     /// Makes a call that can change the tree.
-    fn take(&mut self, call: Call, told: &mut [u64; 2]) -> u32;
+    fn make_call(&mut self, call: Call, told: &mut [u64; 2]) -> u32;
 
     /// Asks a question.
     fn ask(&self, call: Call, told: &mut [u64; 2], reply: &mut [u8]) -> u32;
 }
 
-/// Takes a call that tells nothing.
+/// Makes a call that tells nothing.
 fn number<A: Around>(host: &mut A, call: Call) -> u32 {
-    host.take(call, &mut [0; 2])
+    host.make_call(call, &mut [0; 2])
 }
 
 /// Asks a question that tells one word.
@@ -62,7 +63,7 @@ impl<A: Around> Calls for A {
     }
 
     fn fork(&mut self, parent: u64, process: u64, told: &mut [u64; 2]) -> u32 {
-        self.take(Call::Fork { parent, process }, told)
+        self.make_call(Call::Fork { parent, process }, told)
     }
 
     fn exit(&mut self, process: u64) -> u32 {
@@ -70,7 +71,7 @@ impl<A: Around> Calls for A {
     }
 
     fn charge(&mut self, process: u64, pages: u64, told: &mut [u64; 2]) -> u32 {
-        self.take(Call::Charge { process, pages }, told)
+        self.make_call(Call::Charge { process, pages }, told)
     }
 
     fn release(&mut self, group: u64, pages: u64) -> u32 {
@@ -85,12 +86,7 @@ impl<A: Around> Calls for A {
         show(self, Call::Membership { process, room: reply.len() }, told, reply)
     }
 
-    /// Asked of no host at hand, so of one that is fresh.
-    fn first_bad_word(line: &[u8], told: &mut [u64; 2]) {
-        A::fresh(0).question(line, told);
-    }
-
-    fn question(&self, line: &[u8], told: &mut [u64; 2]) {
+    fn first_bad_word(&self, line: &[u8], told: &mut [u64; 2]) {
         self.ask(Call::FirstBadWord { line: line.to_vec() }, told, &mut []);
     }
 }

@@ -131,7 +131,7 @@ impl Call {
             Call::Read { group, file, .. } => host.read(*group, file, reply, first),
             Call::Membership { process, .. } => host.membership(*process, reply, first),
             Call::FirstBadWord { line } => {
-                host.question(line, told);
+                host.first_bad_word(line, told);
                 0
             }
             _ => panic!("{self} is not a question"),

@@ -20,12 +20,8 @@ pub trait Calls: Clone {
     fn release(&mut self, group: u64, pages: u64) -> u32;
     fn read(&self, group: u64, file: &[u8], reply: &mut [u8], told: &mut [u64; 1]) -> u32;
     fn membership(&self, process: u64, reply: &mut [u8], told: &mut [u64; 1]) -> u32;
-    fn first_bad_word(line: &[u8], told: &mut [u64; 2]);
-
-    /// The same, asked of a host at hand: a wrong one can answer it wrongly.
-    fn question(&self, line: &[u8], told: &mut [u64; 2]) {
-        Self::first_bad_word(line, told);
-    }
+    /// It sees no tree; but a wrong host can answer it wrongly.
+    fn first_bad_word(&self, line: &[u8], told: &mut [u64; 2]);
 
     /// Everything that the host keeps, for hosts that can show it: a refusal may not change it.
     fn memory(&self) -> &[u64] {

@@ -110,7 +110,7 @@ impl Around for Faulty {
         Faulty::new(machine_pages, Fault { text: "none", slip: Slip::Instead(|_, _| {}) })
     }
 
-    fn take(&mut self, mut call: Call, told: &mut [u64; 2]) -> u32 {
+    fn make_call(&mut self, mut call: Call, told: &mut [u64; 2]) -> u32 {
         match self.slip {
             Slip::Instead(change) => {
                 change(&self.model, &mut call);

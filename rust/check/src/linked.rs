@@ -100,7 +100,7 @@ impl Calls for Linked {
         }
     }
 
-    fn first_bad_word(line: &[u8], told: &mut [u64; 2]) {
+    fn first_bad_word(&self, line: &[u8], told: &mut [u64; 2]) {
         unsafe { sys::ss_first_bad_word(line.as_ptr(), line.len(), told.as_mut_ptr()) }
     }
 

@@ -1,16 +1,17 @@
 //! Lists of calls with their answers, as the files of `tests/linux` have them; `docs/LINUX.md` has
 //! the form. What a word of a list means is [`parse_call`]'s to say, how much of an answer a list
-//! tells [`Reply::of`]'s: there a list from before a change of the calls is translated.
+//! tells [`Reply::of`]'s: a list from before a change of the calls is to be translated there.
 
 use std::fmt;
+use std::ops::RangeInclusive;
 
-use crate::call::{Answer, Bytes, Call};
+use crate::call::{Answer, Call};
 use crate::calls::NO_GROUP;
 use crate::compare::ROOM;
 
 mod tokens;
 
-use tokens::Tokens;
+use tokens::{Quoted, Tokens};
 
 /// The cases of a file, in order: one without a name, or several with different ones.
 pub struct List {
@@ -68,11 +69,15 @@ type Parsed<T> = Result<T, String>;
 const NO_PIDS: u32 = 11;
 const NO_MEMORY: u32 = 12;
 
-/// Orders of document 02.
-const ORDERS: std::ops::RangeInclusive<u32> = 1..=14;
+/// The orders of document 02.
+pub const ORDERS: RangeInclusive<u32> = 1..=14;
 
 impl List {
     /// Every line is understood or refused: one that was passed over would look like one that held.
+    ///
+    /// # Errors
+    ///
+    /// The first line that is not of the form.
     pub fn parse(file: &str) -> Result<List, ParseError> {
         let mut list = List { cases: vec![] };
         let mut heading = None;
@@ -80,40 +85,57 @@ impl List {
             let error = |why| ParseError { line, text: text.to_string(), why };
             list.parse_line(line, text, &mut heading).map_err(error)?;
         }
-        let is_empty = |case: &Case| case.entries.is_empty();
-        if heading.is_some() || list.cases.is_empty() || list.cases.iter().any(is_empty) {
-            let why = "a list has cases, and each of them calls".to_string();
-            return Err(ParseError { line: file.lines().count(), text: String::new(), why });
-        }
+        let line = file.lines().count();
+        let error = |why| ParseError { line, text: "the end".to_string(), why };
+        list.end_case(heading.as_ref()).map_err(error)?;
         Ok(list)
     }
 
     /// Adds a line. A heading names the case that the next line begins.
     fn parse_line(&mut self, line: usize, text: &str, heading: &mut Option<String>) -> Parsed<()> {
         if let Some(name) = text.strip_prefix("##") {
-            let name = name.strip_prefix(' ').filter(|name| !name.is_empty());
-            let name = name.ok_or("expected a space and a name after ##")?;
-            return match heading.replace(name.to_string()) {
-                None => Ok(()),
-                Some(other) => Err(format!("{other} has no calls")),
-            };
+            if heading.is_some() || !self.cases.is_empty() {
+                self.end_case(heading.as_ref())?;
+            }
+            *heading = Some(self.parse_heading(name)?);
+            return Ok(());
         }
         if text.is_empty() || text.starts_with('#') {
             return Ok(());
         }
         let mut tokens = Tokens::of(text)?;
-        if tokens.keyword("fresh").is_ok() {
-            let (name, pages) = (heading.take().unwrap_or_default(), tokens.number()?);
-            if self.cases.iter().any(|case| case.name == name) {
-                return Err(format!("there is a case {name:?} already"));
-            }
-            self.cases.push(Case { name, pages, entries: vec![] });
+        if tokens.skip("fresh") {
+            let name = match heading.take() {
+                None if self.cases.is_empty() => String::new(),
+                None => return Err("expected ## and a name before another case".into()),
+                Some(name) => name,
+            };
+            self.cases.push(Case { name, pages: tokens.number()?, entries: vec![] });
         } else {
             let case = self.cases.last_mut().filter(|_| heading.is_none());
             let case = case.ok_or("expected a fresh tree first")?;
             case.entries.push(Entry::parse(line, text, &mut tokens)?);
         }
         tokens.end()
+    }
+
+    fn parse_heading(&self, name: &str) -> Parsed<String> {
+        let name = name.strip_prefix(' ').filter(|name| !name.is_empty());
+        let name = name.ok_or("expected a space and a name after ##")?;
+        let is_above = |name: &str| self.cases.iter().any(|case| case.name == name);
+        if is_above("") {
+            Err("a case above has no name".into())
+        } else if is_above(name) {
+            Err("a case above has this name".into())
+        } else {
+            Ok(name.to_string())
+        }
+    }
+
+    /// A case without calls would look like one that held.
+    fn end_case(&self, heading: Option<&String>) -> Parsed<()> {
+        let has_calls = self.cases.last().is_some_and(|case| !case.entries.is_empty());
+        if has_calls && heading.is_none() { Ok(()) } else { Err("there are no calls above".into()) }
     }
 
     pub fn entries(&self) -> impl Iterator<Item = &Entry> {
@@ -127,10 +149,10 @@ impl Entry {
         tokens.keyword("=")?;
         let reply = Reply::parse(&call, tokens)?;
         let (mut linux, mut order) = (None, None);
-        if tokens.keyword("|").is_ok() {
+        if tokens.skip("|") {
             tokens.keyword("Linux")?;
             linux = Some(Linux::parse(&call, tokens)?);
-            if tokens.keyword("|").is_ok() {
+            if tokens.skip("|") {
                 tokens.keyword("order")?;
                 order = Some(tokens.number()?);
             }
@@ -139,7 +161,7 @@ impl Entry {
             return Err("Linux replies the same".into());
         }
         if order.is_some_and(|order| !ORDERS.contains(&order)) {
-            return Err("document 02 has no such order".into());
+            return Err("document 02 has orders 1 to 14".into());
         }
         Ok(Entry { line, text: text.to_string(), call, reply, linux, order })
     }
@@ -172,7 +194,7 @@ fn parse_call(tokens: &mut Tokens) -> Parsed<Call> {
         "set" => Call::WriteSetting {
             user: tokens.number()?,
             group: tokens.number()?,
-            file: tokens.word()?.into_bytes(),
+            file: tokens.file()?,
             line: tokens.text()?,
         },
         "admit" => Call::Admit { process: tokens.number()?, user: tokens.number()? },
@@ -180,13 +202,11 @@ fn parse_call(tokens: &mut Tokens) -> Parsed<Call> {
         "exit" => Call::Exit { process: tokens.number()? },
         "charge" => Call::Charge { process: tokens.number()?, pages: tokens.number()? },
         "release" => Call::Release { group: tokens.number()?, pages: tokens.number()? },
-        "read" => Call::Read {
-            group: tokens.number()?,
-            file: tokens.word()?.into_bytes(),
-            room: parse_room(tokens)?,
-        },
+        "read" => {
+            Call::Read { group: tokens.number()?, file: tokens.file()?, room: parse_room(tokens)? }
+        }
         "member" => Call::Membership { process: tokens.number()?, room: parse_room(tokens)? },
-        _ => return Err(format!("{name} is no call")),
+        _ => return Err(format!("{name:?} is no call")),
     })
 }
 
@@ -216,6 +236,7 @@ impl Reply {
     }
 
     /// An answer, as a list tells it.
+    #[must_use]
     pub fn of(call: &Call, answer: &Answer) -> Reply {
         let asks_room = matches!(call, Call::Charge { .. } | Call::Fork { .. });
         let group = (asks_room && answer.told[0] != NO_GROUP).then_some(answer.told[0]);
@@ -227,7 +248,7 @@ impl Linux {
     /// A reply, or words in brackets.
     fn parse(call: &Call, tokens: &mut Tokens) -> Parsed<Linux> {
         match tokens.in_brackets() {
-            Some(words) if words.is_empty() => Err("expected words in the brackets".into()),
+            Some(words) if words.trim().is_empty() => Err("expected words in the brackets".into()),
             Some(words) => Ok(Linux::Does(words)),
             None => Ok(Linux::Replies(Reply::parse(call, tokens)?)),
         }
@@ -240,6 +261,7 @@ impl fmt::Display for ParseError {
     }
 }
 
+/// As a list has it.
 impl fmt::Display for Reply {
     fn fmt(&self, f: &mut fmt::Formatter<'_>) -> fmt::Result {
         write!(f, "{}", self.number)?;
@@ -247,7 +269,7 @@ impl fmt::Display for Reply {
             write!(f, " group {group}")?;
         }
         if let Some(text) = &self.text {
-            write!(f, " {}", Bytes(text))?;
+            write!(f, " {}", Quoted(text))?;
         }
         Ok(())
     }

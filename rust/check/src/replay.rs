@@ -27,13 +27,17 @@ pub struct Mismatch<'a> {
 }
 
 enum Cause {
-    /// Both reply so.
+    /// Model and host agree, and the list says otherwise.
     Reply(Reply),
     Difference(Box<Difference>),
 }
 
-/// Asks a list of the model and of a host, both. Whatever else a call leaves has to be alike too:
-/// the whole reply buffer, the groups consulted, the tree after a refusal.
+/// Asks a list of the model and of a host, both. What a list does not tell has to be alike too: the
+/// whole reply buffer and the groups consulted; and a refusal may not change the host's memory.
+///
+/// # Errors
+///
+/// The first call that is answered otherwise.
 pub fn replay<H: Calls>(list: &List, fresh: impl Fn(u64) -> H) -> Result<Tally, Box<Mismatch<'_>>> {
     let mut tally = Tally::default();
     for case in &list.cases {
@@ -52,7 +56,8 @@ pub fn replay<H: Calls>(list: &List, fresh: impl Fn(u64) -> H) -> Result<Tally, 
     Ok(tally)
 }
 
-/// Asks a list of a host alone. Answers all calls whose replies are others.
+/// Asks a list of a host alone, so that it shows what the list finds without the model. Goes on
+/// after a call that is answered otherwise, and answers all of those.
 pub fn mismatches<H: Calls>(list: &List, fresh: impl Fn(u64) -> H) -> Vec<&Entry> {
     let mut found = vec![];
     for case in &list.cases {

@@ -190,6 +190,7 @@ fn consulted_counts<H: Calls>() {
 }
 
 fn first_bad_words<H: Calls>() {
+    let host = H::fresh(0);
     let long = [&[b' '; 300][..], b"cpu"].concat();
     for (line, first, length) in [
         (b"+cpu +disk -pids\n".as_slice(), 5, 5),
@@ -203,7 +204,7 @@ fn first_bad_words<H: Calls>() {
         (&long, 300, 3),
     ] {
         let mut told = [77; 2];
-        H::first_bad_word(line, &mut told);
+        host.first_bad_word(line, &mut told);
         assert_eq!(told, [first, length], "{}", line.escape_ascii());
     }
 }

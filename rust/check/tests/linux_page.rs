@@ -4,10 +4,9 @@
 #[path = "common/lists.rs"]
 mod lists;
 
-use lists::{AGREED, DIFFERENCES, all, cases, file, list};
-use shootspiral_check::recorded::List;
-use shootspiral_check::replay::{Tally, replay};
-use shootspiral_check::{Calls, Linked};
+use lists::{AGREED, DIFFERENCES, all, cases, file, replayed};
+use shootspiral_check::recorded::{List, ORDERS};
+use shootspiral_check::replay::Tally;
 
 /// A part of the page, by its heading.
 fn section(heading: &str) -> String {
@@ -51,30 +50,26 @@ fn named(rows: &[Vec<String>], columns: usize) -> Vec<String> {
     rows.iter().map(name).collect()
 }
 
-fn sorted<T: Ord>(mut list: Vec<T>) -> Vec<T> {
-    list.sort();
-    list
-}
-
 #[test]
 fn every_agreement_has_its_case() {
     let (_, rules) = lists_and_rules();
-    assert_eq!(sorted(named(&rules, 3)), sorted(cases(AGREED)));
+    assert_eq!(named(&rules, 3), cases(AGREED));
 }
 
 const DIFFERENCES_HEADING: &str = "All differences, by file and call";
 
 #[test]
 fn every_difference_has_its_case() {
-    let named = named(&rows(DIFFERENCES_HEADING), 4);
-    assert_eq!(sorted(named), sorted(cases(DIFFERENCES)));
+    assert_eq!(named(&rows(DIFFERENCES_HEADING), 4), cases(DIFFERENCES));
 }
 
 /// The paragraph of document 01 at a call, or below a heading.
 fn paragraph(name: &str) -> String {
     let paper = file("docs/papers/01-scope.md");
     let below = paper.split("\n## ").find_map(|part| part.strip_prefix(&format!("{name}\n")));
-    let at = paper.lines().find(|line| line.contains(&format!("**{name}")));
+    let is_at =
+        |line: &&str| ["**", ".**"].iter().any(|end| line.contains(&format!("**{name}{end}")));
+    let at = paper.lines().find(is_at);
     let found = below.or(at).unwrap_or_else(|| panic!("document 01 has no paragraph {name}"));
     found.replace("**", "")
 }
@@ -89,12 +84,11 @@ fn quotations_are_literal() {
         for part in source.split("; 01, ").map(|part| part.trim_start_matches("01, ")) {
             let (name, rest) = part.split_once(": *").unwrap_or_else(|| panic!("{source}"));
             let (words, rest) = rest.split_once('*').unwrap_or_else(|| panic!("{source}"));
-            assert!(paragraph(name).contains(words), "{name}: {words}");
-            let order = rest.strip_prefix("; order ").map(|rest| rest.split(' ').next());
-            let is_order = |word: Option<&str>| {
-                word.and_then(|word| word.parse().ok()).is_some_and(|n: u32| (1..=14).contains(&n))
-            };
-            assert!(rest.is_empty() || order.is_some_and(is_order), "{source}");
+            let is_quoted = !words.is_empty() && paragraph(name).contains(words);
+            assert!(is_quoted, "{name}: {words}");
+            let order = rest.strip_prefix("; order ").and_then(|rest| rest.split(' ').next());
+            let order = order.and_then(|order| order.parse().ok());
+            assert!(rest.is_empty() || order.is_some_and(|n| ORDERS.contains(&n)), "{source}");
         }
     }
 }
@@ -115,28 +109,30 @@ fn ten_are_met_first() {
     }
 }
 
-/// A line that is taken away from a list is missed here.
 #[test]
 fn calls_are_counted() {
-    let counted = |name: &str| {
-        let tally = replay(&list(name), <Linked as Calls>::fresh).ok().expect("answered so");
-        let Tally { calls, refused, groups, texts, differences } = tally;
+    let (lists, _) = lists_and_rules();
+    assert_eq!(lists.len(), all().count());
+    for (name, row) in all().zip(lists) {
+        let Tally { calls, refused, groups, texts, differences } = replayed(name);
         let counts = [calls, refused, groups, texts, differences].map(|count| count.to_string());
-        let mut row = vec![format!("`tests/linux/{name}`")];
-        row.extend(counts);
-        row
-    };
-    let (mut lists, _) = lists_and_rules();
-    for row in &mut lists {
-        row.pop();
+        assert_eq!(row[0], format!("`tests/linux/{name}`"));
+        assert_eq!(row[1..6], counts, "{name}");
     }
-    assert_eq!(sorted(lists), sorted(all().map(counted).collect()));
 }
 
+/// The table of commands has every word that a list may have.
 #[test]
 fn commands_are_calls() {
-    for row in rows("The lists") {
-        let call = code(&row[0]);
+    let calls: Vec<String> = rows("The lists").iter().map(|row| code(&row[0])).collect();
+    for call in &calls {
         assert!(List::parse(&format!("fresh 1\n{call} = 3\n")).is_ok(), "{call}");
+    }
+    let has = |name: &str| calls.iter().any(|call| call.split(' ').next() == Some(name));
+    for name in all() {
+        for line in file(&format!("tests/linux/{name}")).lines() {
+            let word = line.split(' ').next().unwrap_or_default();
+            assert!(["", "#", "##", "fresh"].contains(&word) || has(word), "{word}");
+        }
     }
 }

@@ -66,53 +66,76 @@ fn replies_are_understood() {
     assert_eq!((differing.linux, differing.order), (linux, None));
 }
 
+/// A reply is printed as a list has it.
+#[test]
+fn replies_are_printed() {
+    for text in ["3", "0"] {
+        let entry = parse(&format!("exit 1 = {text}")).unwrap_or_else(|| panic!("{text}"));
+        assert_eq!(entry.reply.to_string(), text);
+    }
+    for text in ["12 group 3", "0"] {
+        let entry = parse(&format!("charge 1 2 = {text}")).unwrap_or_else(|| panic!("{text}"));
+        assert_eq!(entry.reply.to_string(), text);
+    }
+    for text in [r#"0 "a b\n""#, r#"0 "\"\\\t\u0000\u00e9'""#, r#"0 """#, "28"] {
+        let entry = parse(&format!("member 1 = {text}")).unwrap_or_else(|| panic!("{text}"));
+        assert_eq!(entry.reply.to_string(), text);
+    }
+}
+
+/// What is wrong with a file.
+fn error(file: &str) -> String {
+    List::parse(file).err().unwrap_or_else(|| panic!("accepted:\n{file}")).to_string()
+}
+
 #[test]
 fn other_lines_are_refused() {
-    let lines = [
-        "mkae 0 0 1 = 0",
-        "make 0 0 = 0",
-        "make 0 0 1 2 = 0",
-        "make 0 0 1",
-        "make 0 0 1 =",
-        "make 0 0 1 = 0 0",
-        "make 0 0 1 = EINVAL",
-        "make +0 0 1 = 0",
-        "make 4294967296 0 1 = 0",
-        "make 0 0 1 = 11 group 0",
-        "fork 1 2 = 11",
-        "fork 1 2 = 11 group",
-        "fork 1 2 = 12 group 3",
-        "fork 1 2 = 0 group 3",
-        "charge 1 2 = 12",
-        "read 0 cgroup.procs = 0",
-        "read 0 cgroup.procs large = 28",
-        "read 0 cgroup.procs 18446744073709551615 = 28",
-        r#"read 0 cgroup.procs = 2 "1\n""#,
-        r#"read 0 cgroup.procs = 0 "1\n"#,
-        r#"read 0 cgroup.procs = 0 "1\n"2"#,
-        r#"read 0 cgroup.procs = 0 "\x01""#,
-        r#"read 0 cgroup.procs = 0 "\u01""#,
-        r#"read 0 cgroup.procs = 0 "\u+0a1""#,
-        r#"read 0 cgroup.procs = 0 "\u0100""#,
-        "procs 0 1 10 = 0",
-        r#"set 0 1 "pids.max" "1" = 0"#,
-        "exit 1 = 3 | Linux 3",
-        "exit 1 = 3 | Linux",
-        "exit 1 = 3 | Linux ()",
-        "exit 1 = 3 | Linux (does this",
-        "exit 1 = 3 | order 5",
-        "exit 1 = 3 | Linux 0 | order 0",
-        "exit 1 = 3 | Linux 0 | order 15",
-        "exit 1 = 3 | Linux 0 | order 5 | order 6",
-        "exit 1 = 3 | Linux 0 | Linux 2",
-        "exit 1 = 3 # a comment",
-        "fresh",
-        "fresh 2",
-        "fresh 1 = 0",
+    let rows = [
+        ("mkae 0 0 1 = 0", "\"mkae\" is no call"),
+        ("make 0 0 = 0", "expected a number, found ="),
+        ("make 0 0 1 2 = 0", "expected =, found 2"),
+        ("make 0 0 1", "expected =, found the end of the line"),
+        ("make 0 0 1 =", "expected a number, found the end of the line"),
+        ("make 0 0 1 = 0 0", "expected the end of the line, found 0"),
+        ("make 0 0 1 = EINVAL", "expected a number, found EINVAL"),
+        ("make +0 0 1 = 0", "expected a number, found +0"),
+        ("make 4294967296 0 1 = 0", "4294967296 is too large"),
+        ("make 0 0 1 = 11 group 0", "expected the end of the line, found group"),
+        ("fork 1 2 = 11", "expected group, found the end of the line"),
+        ("fork 1 2 = 11 group", "expected a number, found the end of the line"),
+        ("fork 1 2 = 12 group 3", "expected the end of the line, found group"),
+        ("fork 1 2 = 0 group 3", "expected the end of the line, found group"),
+        ("charge 1 2 = 12", "expected group, found the end of the line"),
+        ("read 0 cgroup.procs = 0", "expected a text in quotes, found the end of the line"),
+        ("read 0 = 2", "expected the name of a file, without quotes, found ="),
+        ("read 0 cgroup.procs large = 28", "expected a number, found large"),
+        ("read 0 cgroup.procs 961 = 28", "a buffer has 960 bytes at most"),
+        (r#"read 0 cgroup.procs = 2 "1""#, r#"expected the end of the line, found "1""#),
+        (r#"read 0 cgroup.procs = 0 "1"#, "a quote is open"),
+        (r#"read 0 cgroup.procs = 0 "1"2"#, "expected a space before 2"),
+        (r#"read 0 cgroup.procs = 0 "\x01""#, r"no escape: \x"),
+        (r#"read 0 cgroup.procs = 0 "\u01""#, r#"\u01" is no byte"#),
+        (r#"read 0 cgroup.procs = 0 "\u+0a1""#, r"\u+0a1 is no byte"),
+        (r#"read 0 cgroup.procs = 0 "\ud800""#, r"\ud800 is no byte"),
+        (r#"read 0 cgroup.procs = 0 "\u0100""#, "'Ā' is no byte"),
+        ("read 0 cgroup.procs = 0 \"\t\"", r"write '\t' as an escape"),
+        ("procs 0 1 10 = 0", "expected a text in quotes, found 10"),
+        (r#"set 0 1 "a" "1" = 0"#, r#"expected the name of a file, without quotes, found "a""#),
+        ("exit 1 = 3 | Linux 3", "Linux replies the same"),
+        ("exit 1 = 3 | Linux", "expected a number, found the end of the line"),
+        ("exit 1 = 3 | Linux ( )", "expected words in the brackets"),
+        ("exit 1 = 3 | Linux (does this", "a bracket is open"),
+        ("exit 1 = 3 | order 5", "expected Linux, found order"),
+        ("exit 1 = 3 | Linux 0 | order 0", "document 02 has orders 1 to 14"),
+        ("exit 1 = 3 | Linux 0 | order 15", "document 02 has orders 1 to 14"),
+        ("exit 1 = 3 | Linux 0 | order 5 | order 6", "expected the end of the line, found |"),
+        ("exit 1 = 3 | Linux 0 | Linux 2", "expected order, found Linux"),
+        ("exit 1 = 3 # words", "expected the end of the line, found #"),
+        ("fresh 2", "expected ## and a name before another case"),
     ];
-    for line in lines {
-        let file = format!("fresh 1\nexit 1 = 3\n{line}\n");
-        assert!(List::parse(&file).is_err(), "{line}");
+    for (line, why) in rows {
+        let error = error(&format!("fresh 1\nexit 1 = 3\n{line}\n"));
+        assert_eq!(error, format!("line 3: {line}\n    {why}"));
     }
 }
 
@@ -122,21 +145,35 @@ fn cases_are_whole() {
     let list = List::parse(good).unwrap_or_else(|error| panic!("{error}"));
     let cases: Vec<_> = list.cases.iter().map(|case| (case.name.as_str(), case.pages)).collect();
     assert_eq!(cases, [("one", 1), ("two", 2)]);
-    let bad = [
-        "",
-        "# words\n",
-        "fresh 1\n",
-        "exit 1 = 3\n",
-        "## one\nexit 1 = 3\n",
-        "## one\nfresh 1\n",
-        "##one\nfresh 1\nexit 1 = 3\n",
-        "## \nfresh 1\nexit 1 = 3\n",
-        "## one\n## two\nfresh 1\nexit 1 = 3\n",
-        "## one\nfresh 1\nexit 1 = 3\n## two\n",
-        "## one\nfresh 1\nexit 1 = 3\n## two\nexit 1 = 3\n",
-        "## one\nfresh 1\nexit 1 = 3\n## one\nfresh 1\nexit 1 = 3\n",
+    let one = "## one\nfresh 1\nexit 1 = 3\n";
+    let rows = [
+        ("", "line 0: the end\n    there are no calls above"),
+        ("# words\n", "line 1: the end\n    there are no calls above"),
+        ("fresh 1\n", "line 1: the end\n    there are no calls above"),
+        ("fresh\n", "line 1: fresh\n    expected a number, found the end of the line"),
+        (
+            "fresh 1 = 0\nexit 1 = 3\n",
+            "line 1: fresh 1 = 0\n    expected the end of the line, found =",
+        ),
+        ("exit 1 = 3\n", "line 1: exit 1 = 3\n    expected a fresh tree first"),
+        ("## one\nexit 1 = 3\n", "line 2: exit 1 = 3\n    expected a fresh tree first"),
+        ("##one\n", "line 1: ##one\n    expected a space and a name after ##"),
+        ("## \n", "line 1: ## \n    expected a space and a name after ##"),
+        ("## one\n## two\n", "line 2: ## two\n    there are no calls above"),
+        ("## one\nfresh 1\n## two\n", "line 3: ## two\n    there are no calls above"),
+        ("fresh 1\nexit 1 = 3\n## two\n", "line 3: ## two\n    a case above has no name"),
+        (&format!("{one}## two\n"), "line 4: the end\n    there are no calls above"),
+        (
+            &format!("{one}## two\nexit 1 = 3\n"),
+            "line 5: exit 1 = 3\n    expected a fresh tree first",
+        ),
+        (&format!("{one}## one\n"), "line 4: ## one\n    a case above has this name"),
+        (
+            &format!("{one}fresh 1\n"),
+            "line 4: fresh 1\n    expected ## and a name before another case",
+        ),
     ];
-    for file in bad {
-        assert!(List::parse(file).is_err(), "{file}");
+    for (file, expected) in rows {
+        assert_eq!(error(file), expected);
     }
 }

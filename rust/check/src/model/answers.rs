@@ -108,7 +108,7 @@ impl Calls for Model {
         number_of(self.try_membership(process, reply, told))
     }
 
-    fn first_bad_word(line: &[u8], told: &mut [u64; 2]) {
+    fn first_bad_word(&self, line: &[u8], told: &mut [u64; 2]) {
         *told = first_bad_word(line);
     }
 }

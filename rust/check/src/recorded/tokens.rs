@@ -1,6 +1,7 @@
 //! A line of a list in its parts: words parted by spaces, texts in quotes, words in brackets.
 
 use std::collections::VecDeque;
+use std::fmt;
 use std::str::{Chars, FromStr};
 
 use super::Parsed;
@@ -46,6 +47,14 @@ impl Tokens {
         }
     }
 
+    /// The name of a file: a word, but not what comes after one.
+    pub(super) fn file(&mut self) -> Parsed<Vec<u8>> {
+        match self.0.pop_front() {
+            Some(Token::Word(word)) if word != "=" => Ok(word.into_bytes()),
+            other => Err(expected("the name of a file, without quotes", other.as_ref())),
+        }
+    }
+
     pub(super) fn text(&mut self) -> Parsed<Vec<u8>> {
         match self.0.pop_front() {
             Some(Token::Text(text)) => Ok(text),
@@ -56,21 +65,22 @@ impl Tokens {
     /// A number of decimal digits, without a sign.
     pub(super) fn number<N: FromStr>(&mut self) -> Parsed<N> {
         let token = self.0.pop_front();
-        let number = match &token {
-            Some(Token::Word(word)) if !word.starts_with('+') => word.parse().ok(),
-            _ => None,
-        };
-        number.ok_or_else(|| expected("a number in range", token.as_ref()))
+        match &token {
+            Some(Token::Word(word)) if word.bytes().all(|byte| byte.is_ascii_digit()) => {
+                word.parse().map_err(|_| format!("{word} is too large"))
+            }
+            other => Err(expected("a number", other.as_ref())),
+        }
     }
 
-    /// This very word; another stays.
+    /// This very word.
     pub(super) fn keyword(&mut self, keyword: &str) -> Parsed<()> {
-        if self.is_next(keyword) {
-            self.0.pop_front();
-            Ok(())
-        } else {
-            Err(expected(keyword, self.0.front()))
-        }
+        if self.skip(keyword) { Ok(()) } else { Err(expected(keyword, self.0.front())) }
+    }
+
+    /// Whether this word comes next; it is then passed.
+    pub(super) fn skip(&mut self, keyword: &str) -> bool {
+        self.is_next(keyword) && self.0.pop_front().is_some()
     }
 
     pub(super) fn is_next(&self, keyword: &str) -> bool {
@@ -97,7 +107,7 @@ fn expected(what: &str, found: Option<&Token>) -> String {
     match found {
         None => format!("expected {what}, found the end of the line"),
         Some(Token::Word(word)) => format!("expected {what}, found {word}"),
-        Some(Token::Text(text)) => format!("expected {what}, found \"{}\"", text.escape_ascii()),
+        Some(Token::Text(text)) => format!("expected {what}, found {}", Quoted(text)),
         Some(Token::InBrackets(words)) => format!("expected {what}, found ({words})"),
     }
 }
@@ -111,9 +121,10 @@ fn quoted(rest: &str) -> Parsed<(Token, &str)> {
         let char = match chars.next().ok_or("a quote is open")? {
             '"' => return Ok((Token::Text(text), chars.as_str())),
             '\\' => escaped(&mut chars)?,
+            char if char.is_ascii_control() => return Err(format!("write {char:?} as an escape")),
             char => char,
         };
-        text.push(u8::try_from(char).map_err(|_| format!("{char} is no byte"))?);
+        text.push(u8::try_from(char).map_err(|_| format!("{char:?} is no byte"))?);
     }
 }
 
@@ -128,11 +139,30 @@ fn escaped(chars: &mut Chars) -> Parsed<char> {
         't' => '\t',
         'u' => {
             let digits: String = chars.take(4).collect();
-            let is_code = digits.len() == 4 && digits.chars().all(|char| char.is_ascii_hexdigit());
+            let is_code = digits.bytes().all(|byte| byte.is_ascii_hexdigit());
             let code = u32::from_str_radix(&digits, 16).ok().filter(|_| is_code);
             let char = code.and_then(char::from_u32);
-            char.ok_or(format!("expected four hexadecimal digits, found {digits}"))?
+            char.ok_or_else(|| format!("\\u{digits} is no byte"))?
         }
         _ => return Err(format!("no escape: \\{escape}")),
     })
+}
+
+/// A text as a list has it.
+pub(super) struct Quoted<'a>(pub &'a [u8]);
+
+impl fmt::Display for Quoted<'_> {
+    fn fmt(&self, f: &mut fmt::Formatter<'_>) -> fmt::Result {
+        f.write_str("\"")?;
+        for &byte in self.0 {
+            match byte {
+                b'"' | b'\\' => write!(f, "\\{}", char::from(byte))?,
+                b'\n' => f.write_str("\\n")?,
+                b'\t' => f.write_str("\\t")?,
+                b' '..=b'~' => write!(f, "{}", char::from(byte))?,
+                _ => write!(f, "\\u{byte:04x}")?,
+            }
+        }
+        f.write_str("\"")
+    }
 }

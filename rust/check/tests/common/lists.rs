@@ -7,6 +7,8 @@ use std::fs;
 use std::path::{Path, PathBuf};
 
 use shootspiral_check::recorded::List;
+use shootspiral_check::replay::{Tally, replay};
+use shootspiral_check::{Calls, Linked};
 
 /// What real kernels answered.
 pub const RECORDED: [&str; 7] = [
@@ -44,4 +46,10 @@ pub fn list(name: &str) -> List {
 /// The names of a list's cases.
 pub fn cases(name: &str) -> Vec<String> {
     list(name).cases.into_iter().map(|case| case.name).collect()
+}
+
+/// What was compared when library and model were asked a list.
+pub fn replayed(name: &str) -> Tally {
+    let list = list(name);
+    replay(&list, Linked::fresh).unwrap_or_else(|mismatch| panic!("{name}, {mismatch}"))
 }
