@@ -93,16 +93,16 @@ fn found_wherever(shows: impl Fn(&Entry) -> bool, change: Change) {
     assert!(lists > 1, "a change that hardly shows");
 }
 
+/// 13 in place of 16.
+const ANOTHER_NUMBER: Change = |_, number, _, _| {
+    if *number == 16 {
+        *number = 13;
+    }
+};
+
 #[test]
 fn another_number_is_found() {
-    found_wherever(
-        |entry| entry.reply.number == 16,
-        |_, number, _, _| {
-            if *number == 16 {
-                *number = 13;
-            }
-        },
-    );
+    found_wherever(|entry| entry.reply.number == 16, ANOTHER_NUMBER);
 }
 
 #[test]
@@ -181,12 +181,7 @@ fn what_lists_do_not_tell_is_found() {
 #[test]
 fn a_mismatch_is_told() {
     let list = list("agreed.txt");
-    let change: Change = |_, number, _, _| {
-        if *number == 16 {
-            *number = 13;
-        }
-    };
-    let mismatch = replay(&list, changed(change)).expect_err("found");
+    let mismatch = replay(&list, changed(ANOTHER_NUMBER)).expect_err("found");
     let told = mismatch.to_string();
     let (line, answers) = told.split_once(", remove: remove 0 1 = 16\n").expect(&told);
     assert!(line.starts_with("line "), "{told}");
@@ -235,7 +230,8 @@ fn the_command_fails() {
     let right = write("right.txt", "fresh 1\nmake 0 0 1 = 0\nmake 0 0 1 = 17\n");
     let (status, text) = run(&[&right]);
     assert_eq!(status, Some(0), "{text}");
-    assert!(text.ends_with("1 of 1 lists answered alike: 2 calls, 1 refused, 0 refusing groups, 0 texts; Linux differs in 0\n"), "{text}");
+    let counts = "2 calls, 1 refused, 0 refusing groups, 0 texts; Linux differs in 0\n";
+    assert!(text.ends_with(&format!("1 of 1 lists answered alike: {counts}")), "{text}");
     let wrong = write("wrong.txt", "fresh 1\nmake 0 0 1 = 0\nmake 0 0 1 = 13\n");
     let (status, text) = run(&[&right, &wrong, &right]);
     assert_eq!(status, Some(1), "{text}");
