@@ -26,7 +26,7 @@ use Rattle.model.specs.declared.Resource.the-variants.{Pages, Processes}
 use Rattle.model.specs.declared.Limit.{Limit}
 use Rattle.model.specs.declared.Limit.the-variants.{NoLimit}
 use Rattle.model.specs.declared.SettingValue.{SettingValue}
-use Rattle.model.specs.declared.SettingValue.the-variants.{Weight, Quota, Bandwidth, Maximum}
+use Rattle.model.specs.declared.SettingValue.the-variants.{Weight, Quota, Bandwidth, Device, Maximum}
 use Rattle.model.specs.declared.Errno.{Errno}
 use Rattle.model.specs.declared.Errno.the-variants.{Enoent, Esrch, Eagain, Enomem, Eacces, Ebusy, Eexist, Einval, Enospc, Erange}
 use Rattle.model.specs.declared.Answer.{Answer}
@@ -144,6 +144,7 @@ unfolding assign
 limits-after-assign (Weight n) st = refl
 limits-after-assign (Quota q) st = refl
 limits-after-assign (Bandwidth q p) st = refl
+limits-after-assign (Device a b p) st = refl
 limits-after-assign (Maximum r l) st = refl
 
 module _ (t : Tree) (mark : ℕ → ℕ) (g : ℕ) where

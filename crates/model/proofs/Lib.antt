@@ -13,9 +13,12 @@ pub mod WordLaws
 pub mod DecimalLaws
 pub mod NameLaws
 pub mod FigureLaws
+pub mod DeviceLaws
+pub mod DeviceLineLaws
 pub mod SettingLaws
 pub mod PieceLaws
 pub mod AllowedLaws
+pub mod DeviceRuleLaws
 pub mod SettingTextLaws
 pub mod Preservation
 pub mod ControlPreservation

@@ -27,7 +27,7 @@ use Rattle.model.specs.declared.Limit.the-variants.{Figure}
 use Rattle.model.specs.declared.Setting.{Setting}
 use Rattle.model.specs.declared.Setting.the-variants.{Max}
 use Rattle.model.specs.declared.SettingValue.{SettingValue}
-use Rattle.model.specs.declared.SettingValue.the-variants.{Weight, Quota, Bandwidth, Maximum}
+use Rattle.model.specs.declared.SettingValue.the-variants.{Weight, Quota, Bandwidth, Device, Maximum}
 use Rattle.model.specs.declared.Errno.{Errno}
 use Rattle.model.specs.declared.Answer.the-variants.{Done, Refused}
 use Rattle.model.proofs.FunctionLaws.{whether, clash, upd-same, upd-other, upd-keeps}
@@ -157,6 +157,8 @@ module _ (t : Tree) (b : Book) (s : State t b) (g : ℕ) where
     by-value (some (Quota q)) p k = other-value (Quota q) p (λ x. absurd x) (λ x. let z : _≡_ {A = ℕ} 0 1 = cc in absurd (omega arith))
     by-value (some (Bandwidth q o)) p k =
         other-value (Bandwidth q o) p (λ x. absurd x) (λ x. let z : _≡_ {A = ℕ} 0 1 = cc in absurd (omega arith))
+    by-value (some (Device a b q)) p k =
+        other-value (Device a b q) p (λ x. absurd x) (λ x. let z : _≡_ {A = ℕ} 0 1 = cc in absurd (omega arith))
     by-value (some (Maximum Pages l)) p k =
         whether h g (λ d. this-value l p d) (λ ne. other-value (Maximum Pages l) p (λ _. ne) (λ _. ne))
     by-value (some (Maximum Processes l)) p k =

@@ -9,9 +9,9 @@ use Rattle.model.specs.Text.{sameBytes}
 use Rattle.model.specs.Names.{controllerName, settingName, fileName, named, controllerNamed, settingNamed, fileNamed}
 use Rattle.model.specs.declared.Resource.the-variants.{Pages, Processes}
 use Rattle.model.specs.declared.Controller.{Controller}
-use Rattle.model.specs.declared.Controller.the-variants.{Cpu, Memory, Pids}
+use Rattle.model.specs.declared.Controller.the-variants.{Cpu, Io, Memory, Pids}
 use Rattle.model.specs.declared.Setting.{Setting}
-use Rattle.model.specs.declared.Setting.the-variants.{CpuWeight, CpuMax, Max}
+use Rattle.model.specs.declared.Setting.the-variants.{CpuWeight, CpuMax, IoMax, Max}
 use Rattle.model.specs.declared.File.{File}
 use Rattle.model.specs.declared.File.the-variants.{Procs, Controllers, SubtreeControl, Events, Current, Value}
 use Rattle.model.proofs.FunctionLaws.{split}
@@ -20,6 +20,7 @@ use Rattle.model.proofs.TextLaws.{sameBytes→≡}
 pub controllerNamed-controllerName : (c : Controller) → controllerNamed (controllerName c) ≡ some c
 unfolding named sameBytes
 controllerNamed-controllerName Cpu = refl
+controllerNamed-controllerName Io = refl
 controllerNamed-controllerName Memory = refl
 controllerNamed-controllerName Pids = refl
 
@@ -27,6 +28,7 @@ pub settingNamed-settingName : (s : Setting) → settingNamed (settingName s) �
 unfolding named sameBytes
 settingNamed-settingName CpuWeight = refl
 settingNamed-settingName CpuMax = refl
+settingNamed-settingName IoMax = refl
 settingNamed-settingName (Max Pages) = refl
 settingNamed-settingName (Max Processes) = refl
 
@@ -40,6 +42,7 @@ fileNamed-fileName (Current Pages) = refl
 fileNamed-fileName (Current Processes) = refl
 fileNamed-fileName (Value CpuWeight) = refl
 fileNamed-fileName (Value CpuMax) = refl
+fileNamed-fileName (Value IoMax) = refl
 fileNamed-fileName (Value (Max Pages)) = refl
 fileNamed-fileName (Value (Max Processes)) = refl
 

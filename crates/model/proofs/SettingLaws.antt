@@ -5,21 +5,26 @@ use native.Mathlib.Omega.{arith}
 use mathlib.Core.Bool.{true}
 use mathlib.Core.List.{List, [], _∷_}
 use mathlib.Core.Option.{Option, none, some}
-use mathlib.Core.Path.{_≡_, refl, ap, fun-ext, subst}
+use mathlib.Core.Path.{_≡_, refl, ap, _∙_, fun-ext, subst}
 use Rattle.model.specs.Functions.{mapped, All}
-use Rattle.model.specs.Tree.{Settings, withAmounts, withLimit}
+use Rattle.model.specs.Devices.{deviceOf, majorOf, minorOf, DeviceLimits, limitsAt, withDevice, Table}
+use Rattle.model.specs.Tree.{Settings, withIo, withAmounts, withLimit}
 use Rattle.model.specs.Text.{oneWord, numberWord}
 use Rattle.model.specs.Figures.{limitWord}
-use Rattle.model.specs.Settings.{bandwidthOf, bandwidthWords, valueOf, between, quotaIn, inRange, toAmount, toFigure, mapLimit, assign, shown}
+use Rattle.model.specs.DeviceLines.{colon, before, after, noPairs, pairsFrom, deviceValue, deviceWords}
+use Rattle.model.specs.Settings.{bandwidthOf, bandwidthWords, valueOf, between, quotaIn, inRange, toAmount, toFigure, mapLimit, assign, shownDevice, shown}
 use Rattle.model.specs.declared.Resource.{Resource}
 use Rattle.model.specs.declared.Resource.the-variants.{Pages, Processes}
 use Rattle.model.specs.declared.Limit.{Limit}
 use Rattle.model.specs.declared.Limit.the-variants.{NoLimit, Figure}
+use Rattle.model.specs.declared.Key.{Key}
+use Rattle.model.specs.declared.Pairs.{Pairs}
 use Rattle.model.specs.declared.Setting.{Setting}
-use Rattle.model.specs.declared.Setting.the-variants.{CpuWeight, CpuMax, Max}
+use Rattle.model.specs.declared.Setting.the-variants.{CpuWeight, CpuMax, IoMax, Max}
 use Rattle.model.specs.declared.SettingValue.{SettingValue}
-use Rattle.model.specs.declared.SettingValue.the-variants.{Weight, Quota, Bandwidth, Maximum}
-use Rattle.model.proofs.FunctionLaws.{and-left, and-right}
+use Rattle.model.specs.declared.SettingValue.the-variants.{Weight, Quota, Bandwidth, Device, Maximum}
+use Rattle.model.proofs.FunctionLaws.{and-left, and-right, all-map, all-images}
+use Rattle.model.proofs.DeviceLaws.{changed-all, each-stands}
 
 -- Ranges.
 module _ (q : Limit) (p : ℕ) (e : inRange (Bandwidth q p) ≡ true) where
@@ -49,14 +54,25 @@ withLimit-all P Pages l f p q Processes = q Processes
 withLimit-all P Processes l f p q Pages = q Pages
 withLimit-all P Processes l f p q Processes = p
 
+-- a device as it is shown is that device
+pub deviceOf-shown : (d : ℕ) → deviceOf (majorOf d) (minorOf d) ≡ d
+deviceOf-shown d = omega arith
+
 abbrev Restores : Settings → SettingValue → Type 0
 Restores st v = assign v st ≡ st
 
-pub assign-shown : (s : Setting) (st : Settings) → All (Restores st) (shown s st)
+assign-shown-device : (st : Settings) (x : DeviceLimits) → withDevice (x .device) (x .limit) (st .io) ≡ st .io → Restores st (shownDevice x)
+unfolding assign
+assign-shown-device st x e = rw deviceOf-shown (ap (λ (xs : List DeviceLimits). withIo xs st) (ap (λ (l : Key → Limit). withDevice (x .device) l (st .io)) (changed-all (x .limit) (limitsAt (x .device) (st .io))) ∙ e))
+
+pub assign-shown : (s : Setting) (st : Settings) → Table (st .io) → All (Restores st) (shown s st)
 unfolding assign shown All
-assign-shown CpuWeight st = (refl, tt)
-assign-shown CpuMax st = (refl, tt)
-assign-shown (Max r) st = (
+assign-shown CpuWeight st t = (refl, tt)
+assign-shown CpuMax st t = (refl, tt)
+assign-shown IoMax st t =
+    all-images (Restores st) shownDevice (st .io)
+    (all-map _ _ (st .io) (assign-shown-device st) (each-stands 0 (st .io) (t .ascending) (t .limited)))
+assign-shown (Max r) st t = (
   ap (λ (f : Resource → Limit). withAmounts f st)
       (fun-ext (withLimit-all (λ x l. l ≡ st .limit x) r _ (st .limit) (mapLimit-back r (st .limit r)) (λ x. refl))),
   tt,
@@ -67,6 +83,7 @@ abbrev pub settingOf : SettingValue → Setting
 settingOf (Weight n) = CpuWeight
 settingOf (Quota q) = CpuMax
 settingOf (Bandwidth q p) = CpuMax
+settingOf (Device a b p) = IoMax
 settingOf (Maximum r l) = Max r
 
 abbrev IsFor : Setting → Option SettingValue → Type 0
@@ -89,10 +106,21 @@ bandwidthWords-is-for (w ∷ []) = mapped-is-for CpuMax Quota (limitWord w) (λ 
 bandwidthWords-is-for (w ∷ v ∷ []) = bandwidthOf-is-for (limitWord w) (numberWord v)
 bandwidthWords-is-for (w ∷ v ∷ u ∷ us) = tt
 
+deviceValue-is-for : (a b : Option ℕ) (p : Option Pairs) → IsFor IoMax (deviceValue a b p)
+deviceValue-is-for none b p = tt
+deviceValue-is-for (some a) none p = tt
+deviceValue-is-for (some a) (some b) none = tt
+deviceValue-is-for (some a) (some b) (some p) = refl
+
+deviceWords-is-for : (ws : List (List ℕ)) → IsFor IoMax (deviceWords ws)
+deviceWords-is-for [] = tt
+deviceWords-is-for (w ∷ ws) = deviceValue-is-for (numberWord (before colon w)) (numberWord (after colon w)) (pairsFrom noPairs ws)
+
 valueOf-is-for : (s : Setting) (ws : List (List ℕ)) → IsFor s (valueOf s ws)
 unfolding valueOf
 valueOf-is-for CpuWeight ws = mapped-is-for CpuWeight Weight (oneWord numberWord ws) (λ n. refl)
 valueOf-is-for CpuMax ws = bandwidthWords-is-for ws
+valueOf-is-for IoMax ws = deviceWords-is-for ws
 valueOf-is-for (Max r) ws = mapped-is-for (Max r) (Maximum r) (oneWord limitWord ws) (λ l. refl)
 
 pub settingOf-valueOf : (s : Setting) (ws : List (List ℕ)) (v : SettingValue) → valueOf s ws ≡ some v → settingOf v ≡ s

@@ -15,7 +15,7 @@ use Rattle.model.specs.Checks.{Pass}
 use Rattle.model.specs.Tree.{Tree, at, isLive, groupOf, noProcess, withOwn, withCore, withOwner, atGroup, cores, lives, parents, sets, settingsAt, places}
 use Rattle.model.specs.Hierarchy.{on, onIn, childOf, headcount, usage, factsOf}
 use Rattle.model.specs.Control.{asked, isWanted, anyController}
-use Rattle.model.specs.Settings.{settingController, inRange, valueOf}
+use Rattle.model.specs.Settings.{settingController, inRange, hasRoom, valueOf}
 use Rattle.model.specs.Text.{lineWords}
 use Rattle.model.specs.Names.{settingNamed}
 use Rattle.model.specs.Rules.{available, standsIn, processGroup, hasChild, hasProcess, heldByChild, lineProcess, joining, leaving}
@@ -111,9 +111,10 @@ module _ (t : Tree) (w : WellFormed t) where
 
   -- a setting written
   kept-value : (g : ℕ) (s : Setting) (ws : List (List ℕ)) (v : Option SettingValue) → valueOf s ws ≡ v → lives t g ≡ true
-      → on t (settingController s) g ≡ true → known v ≡ true → passes v inRange ≡ true → Patch t g (written v (t .group g))
-  kept-value g s ws none e l o k r = clash false k refl
-  kept-value g s ws (some v) e l o k r =
+      → on t (settingController s) g ≡ true → known v ≡ true → passes v inRange ≡ true → passes v (hasRoom (settingsAt t g)) ≡ true
+      → Patch t g (written v (t .group g))
+  kept-value g s ws none e l o k r m = clash false k refl
+  kept-value g s ws (some v) e l o k r m =
       record {
         alive = l;
         live = l;
@@ -123,14 +124,15 @@ module _ (t : Tree) (w : WellFormed t) where
         owner = root-owner g;
         defaults =
             λ c h. default-after-assign s ws v c (settingsAt t g) e (controller-apart s c g o h) (w .defaults .off c g l h);
-        ranges = allowed-after-assign v (settingsAt t g) r (w .ranges .within g l);
+        ranges = allowed-after-assign v (settingsAt t g) r m (w .ranges .within g l);
       }
 
   kept-setting : (g : ℕ) (named : Option Setting) (line : List ℕ) → lives t g ≡ true → passes named (λ s. on t (settingController s) g) ≡ true
       → known (settingValue named line) ≡ true → passes (settingValue named line) inRange ≡ true
+      → passes (settingValue named line) (hasRoom (settingsAt t g)) ≡ true
       → Patch t g (written (settingValue named line) (t .group g))
-  kept-setting g none line l o k r = clash false k refl
-  kept-setting g (some s) line l o k r = kept-value g s (lineWords line) (valueOf s (lineWords line)) refl l o k r
+  kept-setting g none line l o k r m = clash false k refl
+  kept-setting g (some s) line l o k r m = kept-value g s (lineWords line) (valueOf s (lineWords line)) refl l o k r m
 
   -- a control line's set and what leaves it
   module _ (g : ℕ) (line : List ℕ) (l : lives t g ≡ true)
@@ -215,7 +217,7 @@ change t (Call.writeControl user g line) w k = control g line refl (kept-control
 change t (Call.writeSetting user g file line) w k =
     altered g _
     (record {
-      patch = kept-setting t w g (settingNamed file) line (search) (search) (search) (search);
+      patch = kept-setting t w g (settingNamed file) line (search) (search) (search) (search) (search);
       owner = inl (part-written (λ v. v .owner) (λ _ _. refl) (lineValue file line) (t .group g));
       pages = still refl (part-written (λ v. v .core .own) (λ _ _. refl) (lineValue file line) (t .group g));
       limit = inr (record { user = user; group = g; file = file; line = line; call = refl });

@@ -20,7 +20,7 @@ use Rattle.model.specs.declared.Resource.the-variants.{Pages, Processes}
 use Rattle.model.specs.declared.Limit.{Limit}
 use Rattle.model.specs.declared.Limit.the-variants.{NoLimit}
 use Rattle.model.specs.declared.SettingValue.{SettingValue}
-use Rattle.model.specs.declared.SettingValue.the-variants.{Weight, Quota, Bandwidth, Maximum}
+use Rattle.model.specs.declared.SettingValue.the-variants.{Weight, Quota, Bandwidth, Device, Maximum}
 
 -- "It keeps the live groups with parent, own pages, memory limit, pids limit and a mark, and where each live process stands."
 -- The mark, in document 01's word, is the usage when the memory limit was last written. It is read only beside a limit, so
@@ -90,6 +90,7 @@ abbrev pub entryOf : SettingValue → Option (Resource × Limit)
 entryOf (Weight n) = none
 entryOf (Quota q) = none
 entryOf (Bandwidth q p) = none
+entryOf (Device a b p) = none
 entryOf (Maximum r l) = some (r, mapLimit (toAmount r) l)
 
 abbrev pub enterEntry : Book → ℕ → Option (Resource × Limit) → Book

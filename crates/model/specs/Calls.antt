@@ -1,5 +1,5 @@
 -- The calls, with their arguments as they arrive, and the checks of each in the paper's order: document 01, "Calls and the
--- order of their checks" and "What a reader sees". A line of the paper with "either" or "or" is two entries with one
+-- order of their checks" and "What a reader sees", and order 1. A line of the paper with "either" or "or" is two entries with one
 -- number. Assumes nothing.
 use Prim.Native.Nat.{ℕ}
 use mathlib.Core.Bool.{not, _&&_}
@@ -9,12 +9,12 @@ use lib.Dec.{eqb, leb, ltb}
 use Rattle.model.specs.Functions.{known, passes, orElse, mapped}
 use Rattle.model.specs.Sizes.{deepest, largestCharge}
 use Rattle.model.specs.Checks.{Check, bar, need, first}
-use Rattle.model.specs.Tree.{Tree, isLive, groupTaken, processTaken, lives, parents, depths, sets, places}
+use Rattle.model.specs.Tree.{Tree, isLive, groupTaken, processTaken, lives, parents, depths, sets, settingsAt, places}
 use Rattle.model.specs.Hierarchy.{on, Facts, factsOf}
 use Rattle.model.specs.Text.{tooLong, lineWords}
 use Rattle.model.specs.Names.{settingNamed, fileNamed}
 use Rattle.model.specs.Control.{asked, isWanted, hasBadWord, anyController}
-use Rattle.model.specs.Settings.{settingController, valueOf, inRange}
+use Rattle.model.specs.Settings.{settingController, valueOf, inRange, hasRoom}
 use Rattle.model.specs.Rooms.{roomFor, isFull, shortage}
 use Rattle.model.specs.Rules.{noGroupNumber, noProcessNumber, mayWrite, available, processGroup, hasChild, hasProcess, heldByChild, numberLine, lineProcess, mayMove, joining, leaving}
 use Rattle.model.specs.Files.{isPresent, contents, membershipLine, fits}
@@ -127,6 +127,7 @@ checks f (writeSetting user g file line) =
     ∷ bar (tooLong line) Einval
     ∷ need (known (lineValue file line)) Einval
     ∷ need (passes (lineValue file line) inRange) Erange
+    ∷ need (passes (lineValue file line) (hasRoom (settingsAt (f .tree) g))) Enospc
     ∷ []
 checks f (admit p user) =
     bar (eqb p 0) Einval

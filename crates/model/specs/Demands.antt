@@ -6,12 +6,14 @@ use mathlib.Core.List.{List, [], _∷_, _++_}
 use mathlib.Core.Logic.{_≢_}
 use mathlib.Core.Option.{none, some}
 use mathlib.Core.Path.{_≡_}
+use lib.ListN.{length}
 use Rattle.model.specs.Functions.{All}
+use Rattle.model.specs.Sizes.{longestShown}
 use Rattle.model.specs.Checks.{errnoNumber, Says}
 use Rattle.model.specs.Tree.{Tree, depths, groupOf, controllerOf, cores, lives, parents, places}
 use Rattle.model.specs.Hierarchy.{chain, commonAncestor, on, inside, amount, factsOf}
 use Rattle.model.specs.Text.{ended, joined, body, linesOf, decimal}
-use Rattle.model.specs.Names.{settingName, fileName}
+use Rattle.model.specs.Names.{baseSettings, settingName, fileName}
 use Rattle.model.specs.Control.{hasBadWord, Part, firstBadWord}
 use Rattle.model.specs.Words.{Dropped, FirstBad, HasBad}
 use Rattle.model.specs.Settings.{settingController, toFigure}
@@ -68,8 +70,9 @@ pub record Exactly (t : Tree) (c : Call) : Type 0 where
   pub only : (a : Answer) → Says (checks (factsOf t) c) a → a ≡ verdict t c
   pub accepted : verdict t c ≡ Done → (step t c ≡ effect t c) × (reply t c .number ≡ 0)
 
--- "What a settings file shows can be written back by whoever may write it, and changes nothing." Each
--- line that it shows, as it stands and without its newline; there is one.
+-- "What a settings file shows can be written back by whoever may write it, and changes nothing." Order 1: it "speaks here of one
+-- device line; a write carries one device". Each line that a file shows, as it stands and without its newline; the files of document
+-- 01's four settings have one.
 abbrev pub shownBy : Tree → ℕ → Setting → List ℕ
 shownBy t g s = contents (factsOf t) g (Value s)
 
@@ -85,7 +88,8 @@ pub record WriteBack (t : Tree) : Type 0 where
       → mayWrite t user (parents t g) ≡ true
       → All (λ line. WrittenBack t user g s line × WrittenBack t user g s (body line)) (linesOf (shownBy t g s))
   pub whole : (g : ℕ) (s : Setting) → joined (linesOf (shownBy t g s)) ≡ shownBy t g s
-  pub one : (g : ℕ) (s : Setting) → linesOf (shownBy t g s) ≡ shownBy t g s ∷ []
+  pub one : (g : ℕ) → All (λ s. linesOf (shownBy t g s) ≡ shownBy t g s ∷ []) baseSettings
+  pub short : (g : ℕ) (s : Setting) → lives t g ≡ true → All (λ line. length line ≤ longestShown) (linesOf (shownBy t g s))
 
 -- h is the first group without room on the chain of g, and k its place there, counted from 1
 abbrev pub StoppedAt : Tree → Resource → ℕ → ℕ → ℕ → ℕ → Type 0

@@ -1,6 +1,7 @@
 pub mod Functions
 pub mod Sizes
 pub mod Checks
+pub mod Devices
 pub mod Tree
 pub mod Hierarchy
 pub mod Text
@@ -8,6 +9,7 @@ pub mod Names
 pub mod Control
 pub mod Words
 pub mod Figures
+pub mod DeviceLines
 pub mod Settings
 pub mod Rooms
 pub mod Rules
@@ -21,7 +23,9 @@ pub mod Lists
 pub mod Containment
 pub mod Marks
 pub mod Totals
+pub mod DeviceRules
 pub mod Demands
 pub mod Worked
 pub mod Refusals
 pub mod Outcomes
+pub mod DeviceEvenings

@@ -1,4 +1,5 @@
--- The names of controllers and files, and which name is which: document 01, "What the host keeps" and "What a reader sees".
+-- The names of controllers and files, and which name is which: document 01, "What the host keeps" and "What a reader sees", and
+-- order 1.
 -- Assumes nothing.
 use Prim.Native.Nat.{ℕ}
 use mathlib.Core.List.{List, [], _∷_, _++_, map}
@@ -7,28 +8,33 @@ use Rattle.model.specs.Functions.{pick}
 use Rattle.model.specs.Text.{bytes, sameBytes}
 use Rattle.model.specs.declared.Resource.the-variants.{Pages, Processes}
 use Rattle.model.specs.declared.Controller.{Controller}
-use Rattle.model.specs.declared.Controller.the-variants.{Cpu, Memory, Pids}
+use Rattle.model.specs.declared.Controller.the-variants.{Cpu, Io, Memory, Pids}
 use Rattle.model.specs.declared.Setting.{Setting}
-use Rattle.model.specs.declared.Setting.the-variants.{CpuWeight, CpuMax, Max}
+use Rattle.model.specs.declared.Setting.the-variants.{CpuWeight, CpuMax, IoMax, Max}
 use Rattle.model.specs.declared.File.{File}
 use Rattle.model.specs.declared.File.the-variants.{Procs, Controllers, SubtreeControl, Events, Current, Value}
 
--- "Controllers cpu, memory, pids, always listed in this order."
+-- "always listed in this order": "cpu io memory pids"
 abbrev pub controllers : List Controller
-controllers = Cpu ∷ Memory ∷ Pids ∷ []
+controllers = Cpu ∷ Io ∷ Memory ∷ Pids ∷ []
 
 abbrev pub controllerName : Controller → List ℕ
 controllerName Cpu = bytes "cpu"
+controllerName Io = bytes "io"
 controllerName Memory = bytes "memory"
 controllerName Pids = bytes "pids"
 
--- the four settings
+-- document 01's four settings, each a file of one line; and order 1's
+abbrev pub baseSettings : List Setting
+baseSettings = CpuWeight ∷ CpuMax ∷ Max Pages ∷ Max Processes ∷ []
+
 abbrev pub settings : List Setting
-settings = CpuWeight ∷ CpuMax ∷ Max Pages ∷ Max Processes ∷ []
+settings = baseSettings ++ (IoMax ∷ [])
 
 abbrev pub settingName : Setting → List ℕ
 settingName CpuWeight = bytes "cpu.weight"
 settingName CpuMax = bytes "cpu.max"
+settingName IoMax = bytes "io.max"
 settingName (Max Pages) = bytes "memory.max"
 settingName (Max Processes) = bytes "pids.max"
 

@@ -8,7 +8,7 @@ use lib.ListN.{length, replicate}
 use Rattle.model.specs.Text.{bytes}
 use Rattle.model.specs.Calls.{make, remove, handOver, writeSetting, admit, fork, exit, charge, release, read, membership}
 use Rattle.model.specs.Worked.{Exchange, exchange, succeeds, refuses, granted, stopped, reads, belongs, setting, control, procs, Evening, evening}
-use Rattle.model.specs.Refusals.{allSucceed, allGet, allThree, unread, begun}
+use Rattle.model.specs.Refusals.{allSucceed, allGet, allControllers, unread, begun}
 
 -- a text that fills its buffer, and one that does not fit into n bytes
 abbrev pub fills : ℕ → String → String → Exchange
@@ -21,7 +21,7 @@ overflows g file n = exchange (read g (bytes file) (replicate n 1)) 28 none 0 0 
 
 -- files that are only where their controller is on
 abbrev pub resourceFiles : List String
-resourceFiles = "memory.current" ∷ "pids.current" ∷ "cpu.weight" ∷ "cpu.max" ∷ "memory.max" ∷ "pids.max" ∷ []
+resourceFiles = "memory.current" ∷ "pids.current" ∷ "cpu.weight" ∷ "cpu.max" ∷ "io.max" ∷ "memory.max" ∷ "pids.max" ∷ []
 
 abbrev pub absent : ℕ → List String → List Exchange
 absent g files = map (λ file. unread g file 2) files
@@ -39,16 +39,16 @@ readsIn gs file text = map (λ g. reads g file text) gs
 abbrev pub made : Evening
 made =
     evening 8
-    (allSucceed (make 0 0 1 ∷ control 0 0 allThree ∷ setting 0 1 "cpu.weight" "5" ∷ setting 0 1 "cpu.max" "2000 5000" ∷ [])
+    (allSucceed (make 0 0 1 ∷ control 0 0 allControllers ∷ setting 0 1 "cpu.weight" "5" ∷ setting 0 1 "cpu.max" "2000 5000" ∷ [])
     ++ allSucceed (setting 0 1 "memory.max" "32768" ∷ setting 0 1 "pids.max" "3" ∷ admit 5 8 ∷ procs 0 1 "5" ∷ [])
     ++ granted (charge 5 1) 2 ∷ []
     ++ allSucceed (handOver 0 1 8 ∷ make 8 1 2 ∷ []) ++ belongs 5 "0::/1\n" ∷ []
-    ++ allSucceed (procs 8 2 "5" ∷ control 8 1 allThree ∷ setting 8 2 "cpu.weight" "6" ∷ setting 8 2 "cpu.max" "3000 4000" ∷ [])
+    ++ allSucceed (procs 8 2 "5" ∷ control 8 1 allControllers ∷ setting 8 2 "cpu.weight" "6" ∷ setting 8 2 "cpu.max" "3000 4000" ∷ [])
     ++ allSucceed (setting 8 2 "memory.max" "16384" ∷ setting 8 2 "pids.max" "2" ∷ []) ++ granted (charge 5 2) 3 ∷ []
     ++ allSucceed (exit 5 ∷ control 8 2 "+cpu" ∷ handOver 0 1 7 ∷ remove 7 2 ∷ make 7 1 2 ∷ [])
     ++ reads 2 "cgroup.subtree_control" "" ∷ reads 2 "cpu.weight" "100\n" ∷ reads 2 "cpu.max" "max 100000\n" ∷ []
     ++ reads 2 "memory.max" "max\n" ∷ reads 2 "pids.max" "max\n" ∷ reads 2 "memory.current" "0\n" ∷ refuses (release 2 1) 34 ∷ []
-    ++ reads 1 "cgroup.subtree_control" "cpu memory pids\n" ∷ reads 1 "memory.current" "12288\n" ∷ []
+    ++ reads 1 "cgroup.subtree_control" "cpu io memory pids\n" ∷ reads 1 "memory.current" "12288\n" ∷ []
     ++ refuses (make 8 2 3) 13 ∷ succeeds (make 7 2 3) ∷ [])
 
 -- Hand over: the owner changes and nothing else. Children keep their owners, processes their users; set, settings, pages stay.
@@ -56,13 +56,13 @@ abbrev pub handedOn : Evening
 handedOn =
     evening 8
     (begun
-    ++ allSucceed (control 0 0 allThree ∷ control 7 1 allThree ∷ procs 0 2 "5" ∷ [])
+    ++ allSucceed (control 0 0 allControllers ∷ control 7 1 allControllers ∷ procs 0 2 "5" ∷ [])
     ++ allSucceed (setting 7 2 "cpu.weight" "5" ∷ setting 7 2 "memory.max" "8192" ∷ setting 7 2 "pids.max" "1" ∷ [])
     ++ granted (charge 5 1) 3 ∷ []
     ++ allSucceed (handOver 0 1 8 ∷ handOver 0 2 8 ∷ [])
     ++ allGet 13 (make 7 1 4 ∷ make 7 2 4 ∷ make 8 3 4 ∷ procs 8 2 "5" ∷ [])
     ++ allSucceed (make 7 3 4 ∷ make 8 2 10 ∷ make 8 1 11 ∷ [])
-    ++ reads 1 "cgroup.subtree_control" "cpu memory pids\n" ∷ reads 2 "cpu.weight" "5\n" ∷ reads 2 "memory.max" "8192\n" ∷ []
+    ++ reads 1 "cgroup.subtree_control" "cpu io memory pids\n" ∷ reads 2 "cpu.weight" "5\n" ∷ reads 2 "memory.max" "8192\n" ∷ []
     ++ reads 2 "pids.max" "1\n" ∷ reads 2 "memory.current" "4096\n" ∷ [])
 
 -- Remove: "Own pages pass to the parent", no further, and where the parent's owner removes another's group too; the parent keeps
@@ -117,7 +117,7 @@ abbrev pub inRoot : Evening
 inRoot =
     evening 4
     (begun
-    ++ allSucceed (control 0 0 allThree ∷ admit 10 7 ∷ make 0 0 4 ∷ [])
+    ++ allSucceed (control 0 0 allControllers ∷ admit 10 7 ∷ make 0 0 4 ∷ [])
     ++ granted (charge 6 2) 1 ∷ granted (fork 6 11) 1 ∷ fills 0 "cgroup.procs" "5\n6\n10\n11\n" ∷ []
     ++ succeeds (exit 6) ∷ fills 0 "cgroup.procs" "5\n10\n11\n" ∷ []
     ++ stopped (charge 11 3) 12 0 1 ∷ granted (charge 11 2) 1 ∷ refuses (release 0 5) 34 ∷ []
@@ -127,7 +127,7 @@ inRoot =
 abbrev pub ends : Evening
 ends =
     evening 8
-    (allSucceed (make 0 0 1 ∷ make 0 1 63 ∷ control 0 0 allThree ∷ control 0 1 allThree ∷ admit 1 7 ∷ [])
+    (allSucceed (make 0 0 1 ∷ make 0 1 63 ∷ control 0 0 allControllers ∷ control 0 1 allControllers ∷ admit 1 7 ∷ [])
     ++ granted (fork 1 256) 1 ∷ []
     ++ allSucceed (procs 0 63 "1" ∷ procs 0 63 "256" ∷ exit 1 ∷ [])
     ++ allGet 16 (control 0 63 "+cpu" ∷ remove 0 63 ∷ [])
@@ -157,7 +157,7 @@ rooms =
 abbrev pub resetting : Evening
 resetting =
     evening 0
-    (allSucceed (make 0 0 1 ∷ control 0 0 allThree ∷ control 0 1 "+cpu" ∷ setting 0 1 "cpu.weight" "5" ∷ [])
+    (allSucceed (make 0 0 1 ∷ control 0 0 allControllers ∷ control 0 1 "+cpu" ∷ setting 0 1 "cpu.weight" "5" ∷ [])
     ++ allSucceed (setting 0 1 "cpu.max" "2000 5000" ∷ setting 0 1 "memory.max" "4096" ∷ setting 0 1 "pids.max" "3" ∷ [])
     ++ succeeds (control 0 0 "-cpu +cpu") ∷ reads 1 "cpu.weight" "5\n" ∷ []
     ++ allSucceed (control 0 1 "-cpu" ∷ control 0 0 "-cpu -memory" ∷ control 0 0 "+cpu +memory" ∷ [])
@@ -169,7 +169,7 @@ abbrev pub neighbours : Evening
 neighbours =
     evening 8
     (allSucceed (make 0 0 1 ∷ make 0 1 2 ∷ make 0 0 3 ∷ make 0 3 4 ∷ admit 5 0 ∷ procs 0 2 "5" ∷ [])
-    ++ allSucceed (map (λ g. control 0 g allThree) (0 ∷ 1 ∷ 3 ∷ [])) ++ granted (charge 5 1) 3 ∷ []
+    ++ allSucceed (map (λ g. control 0 g allControllers) (0 ∷ 1 ∷ 3 ∷ [])) ++ granted (charge 5 1) 3 ∷ []
     ++ setIn (1 ∷ 2 ∷ 4 ∷ []) "cpu.weight" "5"
     ++ setIn (1 ∷ 2 ∷ 4 ∷ []) "memory.max" "8192"
     ++ setIn (1 ∷ 2 ∷ 4 ∷ []) "pids.max" "3"
@@ -188,7 +188,7 @@ neighbours =
 abbrev pub settingRanges : Evening
 settingRanges =
     evening 0
-    (allSucceed (make 0 0 1 ∷ control 0 0 allThree ∷ setting 0 1 "pids.max" "4194304" ∷ [])
+    (allSucceed (make 0 0 1 ∷ control 0 0 allControllers ∷ setting 0 1 "pids.max" "4194304" ∷ [])
     ++ allGet 34 (map (setting 0 1 "pids.max") ("4194305" ∷ "18446744073709551616" ∷ []))
     ++ reads 1 "pids.max" "4194304\n" ∷ succeeds (setting 0 1 "pids.max" "0") ∷ reads 1 "pids.max" "0\n" ∷ []
     ++ succeeds (setting 0 1 "memory.max" "4503599627370496") ∷ reads 1 "memory.max" "4503599627370496\n" ∷ []
@@ -200,11 +200,11 @@ settingRanges =
     ++ reads 1 "cpu.max" "max 5000\n" ∷ []
     ++ succeeds (writeSetting 0 1 (bytes "cpu.weight") (replicate 127 48 ++ bytes "5")) ∷ reads 1 "cpu.weight" "5\n" ∷ [])
 
--- A setting is written to its group alone, and leaves the other three there as they are.
+-- A setting is written to its group alone, and leaves the others there as they are.
 abbrev pub settingsApart : Evening
 settingsApart =
     evening 0
-    (allSucceed (make 0 0 1 ∷ make 0 0 2 ∷ make 0 1 3 ∷ control 0 0 allThree ∷ control 0 1 allThree ∷ [])
+    (allSucceed (make 0 0 1 ∷ make 0 0 2 ∷ make 0 1 3 ∷ control 0 0 allControllers ∷ control 0 1 allControllers ∷ [])
     ++ allSucceed (setting 0 1 "memory.max" "4096" ∷ setting 0 1 "pids.max" "3" ∷ setting 0 1 "cpu.weight" "5" ∷ [])
     ++ allSucceed (map (setting 0 1 "cpu.max") ("2000 5000" ∷ "3000" ∷ []))
     ++ reads 1 "memory.max" "4096\n" ∷ reads 1 "pids.max" "3\n" ∷ reads 1 "cpu.weight" "5\n" ∷ []
@@ -220,7 +220,7 @@ wholeReplies =
     evening 0
     (allSucceed (make 0 0 3 ∷ make 0 3 7 ∷ admit 200 0 ∷ admit 3 0 ∷ admit 12 0 ∷ [])
     ++ overflows 0 "cgroup.procs" 8 ∷ fills 0 "cgroup.procs" "3\n12\n200\n" ∷ []
-    ++ fills 0 "cgroup.controllers" "cpu memory pids\n" ∷ fills 0 "cgroup.subtree_control" "" ∷ []
+    ++ fills 0 "cgroup.controllers" "cpu io memory pids\n" ∷ fills 0 "cgroup.subtree_control" "" ∷ []
     ++ fills 3 "cgroup.controllers" "" ∷ fills 3 "cgroup.subtree_control" "" ∷ fills 3 "cgroup.procs" "" ∷ []
     ++ succeeds (control 0 0 "+cpu +memory") ∷ fills 0 "cgroup.subtree_control" "cpu memory\n" ∷ []
     ++ succeeds (procs 0 7 "12") ∷ exchange (membership 12 (replicate 7 1)) 28 none 0 0 (replicate 7 1) ∷ []
@@ -237,11 +237,11 @@ abbrev pub showing : Evening
 showing =
     evening 8
     (standing
-    ++ absent 1 resourceFiles ++ succeeds (control 0 0 allThree) ∷ absent 0 ("cgroup.events" ∷ resourceFiles)
-    ++ succeeds (procs 0 1 "6") ∷ reads 1 "cgroup.procs" "6\n" ∷ reads 1 "cgroup.controllers" "cpu memory pids\n" ∷ []
+    ++ absent 1 resourceFiles ++ succeeds (control 0 0 allControllers) ∷ absent 0 ("cgroup.events" ∷ resourceFiles)
+    ++ succeeds (procs 0 1 "6") ∷ reads 1 "cgroup.procs" "6\n" ∷ reads 1 "cgroup.controllers" "cpu io memory pids\n" ∷ []
     ++ reads 1 "cgroup.subtree_control" "" ∷ reads 1 "cgroup.events" "populated 1\n" ∷ []
     ++ reads 1 "memory.current" "4096\n" ∷ reads 1 "pids.current" "2\n" ∷ reads 1 "cpu.weight" "100\n" ∷ []
-    ++ reads 1 "cpu.max" "max 100000\n" ∷ reads 1 "memory.max" "max\n" ∷ reads 1 "pids.max" "max\n" ∷ [])
+    ++ reads 1 "cpu.max" "max 100000\n" ∷ reads 1 "io.max" "" ∷ reads 1 "memory.max" "max\n" ∷ reads 1 "pids.max" "max\n" ∷ [])
 
 -- Each file in a group where memory alone is on, and below it, where nothing is; above it cgroup.controllers lists what is in the
 -- set and what is not. cgroup.procs shows "processes of G itself"; the other counts take in all inside. A group that has pages and
@@ -250,12 +250,12 @@ abbrev pub showingBelow : Evening
 showingBelow =
     evening 8
     (standing
-    ++ allSucceed (control 0 0 allThree ∷ control 0 1 "+memory" ∷ [])
+    ++ allSucceed (control 0 0 allControllers ∷ control 0 1 "+memory" ∷ [])
     ++ reads 1 "cgroup.procs" "" ∷ reads 1 "cgroup.subtree_control" "memory\n" ∷ reads 1 "pids.current" "2\n" ∷ []
-    ++ readsIn (0 ∷ 1 ∷ []) "cgroup.controllers" "cpu memory pids\n"
+    ++ readsIn (0 ∷ 1 ∷ []) "cgroup.controllers" "cpu io memory pids\n"
     ++ reads 2 "cgroup.procs" "5\n6\n" ∷ reads 2 "cgroup.controllers" "memory\n" ∷ reads 2 "cgroup.subtree_control" "" ∷ []
     ++ reads 2 "cgroup.events" "populated 1\n" ∷ reads 2 "memory.current" "4096\n" ∷ reads 2 "memory.max" "max\n" ∷ []
-    ++ absent 2 ("pids.current" ∷ "cpu.weight" ∷ "cpu.max" ∷ "pids.max" ∷ []) ++ absent 3 resourceFiles
+    ++ absent 2 ("pids.current" ∷ "cpu.weight" ∷ "cpu.max" ∷ "io.max" ∷ "pids.max" ∷ []) ++ absent 3 resourceFiles
     ++ reads 3 "cgroup.procs" "" ∷ reads 3 "cgroup.controllers" "" ∷ reads 3 "cgroup.events" "populated 0\n" ∷ []
     ++ reads 1 "cgroup.events" "populated 1\n" ∷ succeeds (exit 5) ∷ succeeds (exit 6) ∷ []
     ++ reads 1 "cgroup.events" "populated 0\n" ∷ reads 2 "cgroup.procs" "" ∷ reads 2 "memory.current" "4096\n" ∷ [])

@@ -18,8 +18,8 @@ abbrev pub allGet : ℕ → List Call → List Exchange
 allGet n cs = map (λ c. refuses c n) cs
 
 -- every controller wanted
-abbrev pub allThree : String
-allThree = "+cpu +memory +pids"
+abbrev pub allControllers : String
+allControllers = "+cpu +io +memory +pids"
 
 -- a text with spaces after it, n bytes in all
 abbrev pub padded : ℕ → String → List ℕ
@@ -158,14 +158,15 @@ abbrev pub holding : Evening
 holding =
     evening 0
     (begun
-    ++ allSucceed (map (λ g. control 0 g allThree) (0 ∷ 1 ∷ 2 ∷ []) ++ procs 0 3 "5" ∷ [])
+    ++ allSucceed (map (λ g. control 0 g allControllers) (0 ∷ 1 ∷ 2 ∷ []) ++ procs 0 3 "5" ∷ [])
     ++ allGet 13 (control 8 1 "-cpu" ∷ control 8 3 "+cpu" ∷ [])
     ++ allGet 22 (map (writeControl 7 1) (bytes "-cpu x" ∷ padded 129 "-cpu" ∷ []))
     ++ allGet 22 (map (writeControl 7 3) (bytes "+cpu x" ∷ padded 129 "+cpu" ∷ []))
-    ++ allGet 16 (map (control 7 1) ("-cpu" ∷ "-memory" ∷ "-pids" ∷ []))
-    ++ allGet 16 (map (control 7 3) ("+cpu" ∷ "+memory" ∷ "+pids" ∷ []))
-    ++ succeeds (control 7 2 "-cpu -pids") ∷ refuses (procs 7 2 "5") 16 ∷ succeeds (control 7 1 "-cpu") ∷ []
-    ++ succeeds (control 7 2 "-memory +pids") ∷ refuses (procs 7 2 "5") 16 ∷ []
+    ++ allGet 16 (map (control 7 1) ("-cpu" ∷ "-io" ∷ "-memory" ∷ "-pids" ∷ []))
+    ++ allGet 16 (map (control 7 3) ("+cpu" ∷ "+io" ∷ "+memory" ∷ "+pids" ∷ []))
+    ++ succeeds (control 7 2 "-cpu -pids -io") ∷ refuses (procs 7 2 "5") 16 ∷ succeeds (control 7 1 "-cpu") ∷ []
+    ++ succeeds (control 7 2 "-memory +io") ∷ refuses (procs 7 2 "5") 16 ∷ succeeds (control 7 2 "-io") ∷ []
+    ++ succeeds (control 7 2 "+pids") ∷ refuses (procs 7 2 "5") 16 ∷ []
     ++ succeeds (control 7 2 "-pids") ∷ succeeds (procs 7 2 "5") ∷ [])
 
 -- A setting: 22, 2, 2, 13, 22, 34. Nothing is on in the root. The parent's owner may, and user 0; to own the group alone gives

@@ -1,4 +1,4 @@
--- The sizes of document 01, "What the host keeps" and "Lines", each named once. Assumes nothing.
+-- The sizes of document 01, "What the host keeps" and "Lines", and of order 1, each named once. Assumes nothing.
 use Prim.Native.Nat.{ℕ}
 
 -- group numbers are below this: "Groups 0 to 63"
@@ -28,3 +28,19 @@ largestCharge = 1048576
 -- "At most 128 bytes, newline counted"
 abbrev pub longestLine : ℕ
 longestLine = 128
+
+-- order 1: both numbers of a device are below this: "each 0 to 255"
+abbrev pub deviceNumbers : ℕ
+deviceNumbers = 256
+
+-- "each 1 to 4503599627370496"
+abbrev pub largestRate : ℕ
+largestRate = 4503599627370496
+
+-- "A group holds four devices"
+abbrev pub mostDevices : ℕ
+mostDevices = 4
+
+-- no settings file shows a longer line, newline counted
+abbrev pub longestShown : ℕ
+longestShown = 98

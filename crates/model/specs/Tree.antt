@@ -1,8 +1,10 @@
--- The tree: document 01, "What the host keeps". Every field is a function of the number, and a number that is not taken
+-- The tree: document 01, "What the host keeps", and order 1. Every field is a function of the number, and a number that is not taken
 -- has one blank value, so that one tree has one description. Assumes nothing.
 use Prim.Native.Nat.{ℕ}
 use mathlib.Core.Bool.{Bool, true, false}
+use mathlib.Core.List.{List, []}
 use Rattle.model.specs.Functions.{upd}
+use Rattle.model.specs.Devices.{DeviceLimits}
 use Rattle.model.specs.declared.Resource.{Resource}
 use Rattle.model.specs.declared.Resource.the-variants.{Pages, Processes}
 use Rattle.model.specs.declared.Limit.{Limit}
@@ -38,6 +40,7 @@ pub record Group : Type 0 where
   pub owner : ℕ
   pub set : Controls
   pub cpu : CpuSettings
+  pub io : List DeviceLimits
 
 -- where a process stands: nowhere if it is free
 pub data Place : Type 0 where
@@ -63,12 +66,12 @@ noControls c = false
 
 abbrev pub noGroup : Group
 noGroup =
-    record { core = noCore; depth = 0; owner = 0; set = noControls; cpu = record { weight = 0; quota = NoLimit; period = 0 } }
+    record { core = noCore; depth = 0; owner = 0; set = noControls; cpu = record { weight = 0; quota = NoLimit; period = 0 }; io = [] }
 
 abbrev pub noProcess : Process
 noProcess = record { place = nowhere; user = 0 }
 
--- cpu.weight 100, cpu.max "max 100000"
+-- cpu.weight 100, cpu.max "max 100000"; io.max has no device
 abbrev pub defaultCpu : CpuSettings
 defaultCpu = record { weight = 100; quota = NoLimit; period = 100000 }
 
@@ -78,7 +81,7 @@ newCore parent = record { live = true; parent = parent; own = 0; limit = λ r. N
 
 abbrev pub newGroup : ℕ → ℕ → ℕ → Group
 newGroup parent depth owner =
-    record { core = newCore parent; depth = depth; owner = owner; set = noControls; cpu = defaultCpu }
+    record { core = newCore parent; depth = depth; owner = owner; set = noControls; cpu = defaultCpu; io = [] }
 
 -- One part of a group changed.
 abbrev pub withOwn : ℕ → Core → Core
@@ -88,36 +91,40 @@ abbrev pub withLimits : (Resource → Limit) → Core → Core
 withLimits l c = record { live = c .live; parent = c .parent; own = c .own; limit = l }
 
 abbrev pub withCore : Core → Group → Group
-withCore c g = record { core = c; depth = g .depth; owner = g .owner; set = g .set; cpu = g .cpu }
+withCore c g = record { core = c; depth = g .depth; owner = g .owner; set = g .set; cpu = g .cpu; io = g .io }
 
 abbrev pub withOwner : ℕ → Group → Group
-withOwner o g = record { core = g .core; depth = g .depth; owner = o; set = g .set; cpu = g .cpu }
+withOwner o g = record { core = g .core; depth = g .depth; owner = o; set = g .set; cpu = g .cpu; io = g .io }
 
 abbrev pub withSet : Controls → Group → Group
-withSet s g = record { core = g .core; depth = g .depth; owner = g .owner; set = s; cpu = g .cpu }
+withSet s g = record { core = g .core; depth = g .depth; owner = g .owner; set = s; cpu = g .cpu; io = g .io }
 
--- The settings of a group, taken together.
+-- The settings of a group, taken together; `io` is the table of io.max.
 pub record Settings : Type 0 where
   pub limit : Resource → Limit
   pub cpu : CpuSettings
+  pub io : List DeviceLimits
 
 abbrev pub settingsOf : Group → Settings
-settingsOf g = record { limit = g .core .limit; cpu = g .cpu }
+settingsOf g = record { limit = g .core .limit; cpu = g .cpu; io = g .io }
 
 abbrev pub withSettings : Settings → Group → Group
 withSettings s g =
-    record { core = withLimits (s .limit) (g .core); depth = g .depth; owner = g .owner; set = g .set; cpu = s .cpu }
+    record { core = withLimits (s .limit) (g .core); depth = g .depth; owner = g .owner; set = g .set; cpu = s .cpu; io = s .io }
 
 -- the settings of a group when it is made: "Settings and defaults"
 abbrev pub newSettings : Settings
-newSettings = record { limit = λ r. NoLimit; cpu = defaultCpu }
+newSettings = record { limit = λ r. NoLimit; cpu = defaultCpu; io = [] }
 
 -- One part of them changed.
 abbrev pub withAmounts : (Resource → Limit) → Settings → Settings
-withAmounts l s = record { limit = l; cpu = s .cpu }
+withAmounts l s = record { limit = l; cpu = s .cpu; io = s .io }
 
 abbrev pub withCpu : CpuSettings → Settings → Settings
-withCpu c s = record { limit = s .limit; cpu = c }
+withCpu c s = record { limit = s .limit; cpu = c; io = s .io }
+
+abbrev pub withIo : List DeviceLimits → Settings → Settings
+withIo xs s = record { limit = s .limit; cpu = s .cpu; io = xs }
 
 -- the limits with that of one resource changed
 abbrev pub withLimit : Resource → Limit → (Resource → Limit) → Resource → Limit

@@ -23,14 +23,37 @@ pub enum Limit {
 // The controllers, in the order in which they are listed.
 pub enum Controller {
     Cpu,
+    Io,
     Memory,
     Pids,
 }
 
-// The files that set something: cpu.weight, cpu.max, and the limit of a resource, memory.max or pids.max.
+// What io.max limits of a device, in the order in which it is shown: bytes read and written, and operations, in a second.
+pub enum Key {
+    Rbps,
+    Wbps,
+    Riops,
+    Wiops,
+}
+
+// What a line of io.max gives a key.
+pub enum Pair {
+    Absent,
+    Given(Limit),
+}
+
+pub struct Pairs {
+    pub rbps: Pair,
+    pub wbps: Pair,
+    pub riops: Pair,
+    pub wiops: Pair,
+}
+
+// The files that set something: cpu.weight, cpu.max, io.max, and the limit of a resource, memory.max or pids.max.
 pub enum Setting {
     CpuWeight,
     CpuMax,
+    IoMax,
     Max(Resource),
 }
 
@@ -40,6 +63,8 @@ pub enum SettingValue {
     // cpu.max with one word, which leaves the period
     Quota(Limit),
     Bandwidth(Limit, u64),
+    // io.max: a device's major and minor number, and what its keys are given
+    Device(u64, u64, Pairs),
     Maximum(Resource, Limit),
 }
 
@@ -72,7 +97,7 @@ pub enum Errno {
     Eexist,
     // 22 number out of range or text malformed
     Einval,
-    // 28 reply buffer shorter than the reply
+    // 28 reply buffer shorter than the reply, or a device too many
     Enospc,
     // 34 well-formed figure outside its range, or too many pages released
     Erange,
