@@ -2,6 +2,7 @@ pub mod LayoutLaws
 pub mod ClimbLaws
 pub mod RowLaws
 pub mod SetterLaws
+pub mod SlotLaws
 pub mod WalkLaws
 pub mod AdjustLaws
 pub mod AlongLaws

@@ -5,7 +5,7 @@ use native.Mathlib.Decide.{decLt}
 use mathlib.Core.Bool.{true, false}
 use mathlib.Core.List.{List}
 use mathlib.Core.Logic.{_≢_}
-use mathlib.Core.Path.{_≡_, ap, sym, _∙_}
+use mathlib.Core.Path.{_≡_, refl, ap, sym, _∙_, subst}
 use lib.Dec.{eqb}
 use lib.ListN.{getD}
 use lib.Seq.{ext-getD}
@@ -14,9 +14,12 @@ use Rattle.model.specs.Sizes.{groups, processes}
 use Rattle.model.specs.Tree.{Tree, Group, Process, nowhere, at}
 use Rattle.model.specs.declared.Resource.the-variants.{Pages, Processes}
 use Rattle.model.specs.declared.Limit.the-variants.{NoLimit, Figure}
-use Rattle.model.specs.declared.Controller.the-variants.{Cpu, Memory, Pids}
+use Rattle.model.specs.declared.Controller.the-variants.{Cpu, Io, Memory, Pids}
 use Rattle.model.proofs.FunctionLaws.{split, whether}
-use Rattle.tree.specs.Layout.{front, machineAt, rowWords, treeWords, word, sumField, sumIn, firstFlag, liveField, setField, firstWord, used, limitIn, placeIn, flagIn, groupRow, processIn, view, SpareRow}
+use Rattle.devices.specs.Slots.{freeSlot}
+use Rattle.devices.specs.declared.slot.Slot.{Slot}
+use Rattle.devices.proofs.PassLaws.{same-slots}
+use Rattle.tree.specs.Layout.{front, machineAt, rowWords, treeWords, word, sumField, sumIn, firstFlag, liveField, setField, firstWord, firstSlot, slotField, used, limitIn, placeIn, flagIn, slotIn, slotsIn, groupRow, processIn, view, SpareRow}
 use Rattle.tree.specs.Kept.{countIn, Kept}
 use Rattle.tree.specs.OneForm.{OneForm}
 use Rattle.tree.specs.declared.sum.Counter.{Counter}
@@ -86,8 +89,26 @@ module _ (v w : ℕ → ℕ) (a : SpareRow v) (b : SpareRow w) (sums : (c : Coun
   flag : (k : ℕ) → firstFlag ≤ k → k < firstWord → flagIn (v k) ≡ flagIn (w k) → v k ≡ w k
   flag k from to f = flag-word (v k) (w k) (a .flags k from to) (b .flags k from to) f
 
-  places-same : Below (λ k. v k ≡ w k) used
-  places-same =
+  -- packed slots of one table are the same
+  slot : (i : ℕ) → getD (slotsIn v) i freeSlot ≡ getD (slotsIn w) i freeSlot
+  slot i =
+      ap (λ (l : List Slot). getD l i freeSlot) (same-slots (slotsIn v) (slotsIn w) refl (a .packed) (b .packed) (ap (λ (g : Group). g .io) e))
+
+  -- and so are their words, after the places before them
+  and-slot : (k : ℕ) → slotIn v k ≡ slotIn w k → Below (λ k. v k ≡ w k) k → Below (λ k. v k ≡ w k) (suc (suc (suc (suc (suc k)))))
+  and-slot k f before =
+      at (k + 4) (suc (suc (suc (suc k)))) (omega arith) (limit-word _ _ (ap (λ (x : Slot). x .wiops) f))
+      ▹ at (k + 3) (suc (suc (suc k))) (omega arith) (limit-word _ _ (ap (λ (x : Slot). x .riops) f))
+      ▹ at (k + 2) (suc (suc k)) (omega arith) (limit-word _ _ (ap (λ (x : Slot). x .wbps) f))
+      ▹ at (k + 1) (suc k) (omega arith) (limit-word _ _ (ap (λ (x : Slot). x .rbps) f))
+      ▹ ap (λ (x : Slot). x .device) f
+      ▹ before
+    where
+      at : (i j : ℕ) → i ≡ j → v i ≡ w i → v j ≡ w j
+      at i j d h = subst (λ k. v k ≡ w k) d h
+
+  words-before : Below (λ k. v k ≡ w k) firstSlot
+  words-before =
       limit-word _ _ (ap (λ (g : Group). g .core .limit Processes) e)
       ▹ limit-word _ _ (ap (λ (g : Group). g .core .limit Pages) e)
       ▹ ap (λ (g : Group). g .core .own) e
@@ -99,12 +120,17 @@ module _ (v w : ℕ → ℕ) (a : SpareRow v) (b : SpareRow w) (sums : (c : Coun
       ▹ ap (λ (g : Group). g .core .parent) e
       ▹ flag (setField Pids) (omega arith) (omega arith) (ap (λ (g : Group). g .set Pids) e)
       ▹ flag (setField Memory) (omega arith) (omega arith) (ap (λ (g : Group). g .set Memory) e)
+      ▹ flag (setField Io) (omega arith) (omega arith) (ap (λ (g : Group). g .set Io) e)
       ▹ flag (setField Cpu) (omega arith) (omega arith) (ap (λ (g : Group). g .set Cpu) e)
       ▹ flag liveField (omega arith) (omega arith) (ap (λ (g : Group). g .core .live) e)
       ▹ sums Children
       ▹ sums (Of Processes)
       ▹ sums (Of Pages)
       ▹ none
+
+  places-same : Below (λ k. v k ≡ w k) used
+  places-same =
+      and-slot (slotField 3) (slot 3) (and-slot (slotField 2) (slot 2) (and-slot (slotField 1) (slot 1) (and-slot (slotField 0) (slot 0) words-before)))
 
   row-same : (k : ℕ) → k < rowWords → v k ≡ w k
   row-same k l =

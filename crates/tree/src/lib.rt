@@ -5,6 +5,7 @@ pub mod layout; // the sizes, and the type of a tree
 mod row; // the places in a row, and the meaning of a word
 pub mod group; // what is kept of a group
 pub mod setting; // its settings, their controllers and defaults
+pub mod device; // the slots of io.max
 pub mod sum; // its running sums
 pub mod process; // what is kept of a process
 pub mod fresh; // a fresh tree
