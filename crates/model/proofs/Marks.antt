@@ -13,7 +13,7 @@ use Rattle.model.specs.Tree.{Tree, Core, cores, places}
 use Rattle.model.specs.Hierarchy.{usage}
 use Rattle.model.specs.Text.{bytes, lineWords}
 use Rattle.model.specs.Names.{settings, settingName, settingNamed}
-use Rattle.model.specs.Calls.{Call, settingValue, lineValue, checks, verdict}
+use Rattle.model.specs.Calls.{Call, settingValue, lineValue, settingChecks, checks, verdict}
 use Rattle.model.specs.Effects.{effect, step}
 use Rattle.model.specs.Replies.{reply}
 use Rattle.model.specs.Book.{Book, enterLimit, entryOf, enterEntry, enterValue, enter, bookStep, bookOf, fed}
@@ -166,7 +166,7 @@ module _ (t : Tree) (b : Book) (s : State t b) (g : ℕ) where
         (λ x. let z : _≡_ {A = ℕ} 0 1 = cc in absurd (omega arith)) (λ x. let z : _≡_ {A = ℕ} 0 1 = cc in absurd (omega arith))
 
   setting-decided : (c : Call) → verdict t c ≡ Done → WritesSetting c → Decided c
-  unfolding checks Pass
+  unfolding checks settingChecks Pass
   setting-decided c e x =
       subst (λ (y : Call). verdict t y ≡ Done → Decided y) (sym (x .call))
       (λ d. let k = passed t (Call.writeSetting (x .user) (x .group) (x .file) (x .line)) d in

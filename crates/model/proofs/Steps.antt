@@ -19,7 +19,7 @@ use Rattle.model.specs.Settings.{settingController, inRange, hasRoom, va
 use Rattle.model.specs.Text.{lineWords}
 use Rattle.model.specs.Names.{settingNamed}
 use Rattle.model.specs.Rules.{available, standsIn, processGroup, hasChild, hasProcess, heldByChild, lineProcess, joining, leaving}
-use Rattle.model.specs.Calls.{Call, settingValue, lineValue, chargeChecks, forkChecks, checks, verdict}
+use Rattle.model.specs.Calls.{Call, settingValue, lineValue, chargeChecks, forkChecks, settingChecks, checks, verdict}
 use Rattle.model.specs.Effects.{newSet, written, effect, step, run}
 use Rattle.model.specs.WellFormed.{WellFormed}
 use Rattle.model.specs.declared.Resource.the-variants.{Pages}
@@ -178,7 +178,7 @@ module _ (t : Tree) (w : WellFormed t) where
 
 -- Every accepted call makes one of the six changes.
 pub change : (t : Tree) (c : Call) → WellFormed t → Pass (checks (factsOf t) c) → Change t c (effect t c)
-unfolding effect checks Pass chargeChecks forkChecks
+unfolding effect checks Pass chargeChecks forkChecks settingChecks
 change t (Call.make user parent new) w k =
     made user parent new refl
     (record {

@@ -15,7 +15,7 @@ use Rattle.model.specs.Settings.{valueOf, inRange, assign, hasRoom, show
 use Rattle.model.specs.Rooms.{actingLimit, consult}
 use Rattle.model.specs.Rules.{hasChild, hasProcess, heldByChild}
 use Rattle.model.specs.Files.{processLines, namesOf, nameLine, contents, path, membershipLine}
-use Rattle.model.specs.Calls.{chargeChecks, forkChecks, checks, verdict}
+use Rattle.model.specs.Calls.{chargeChecks, forkChecks, settingChecks, checks, verdict}
 use Rattle.model.specs.Effects.{effect, step, fresh, run}
 use Rattle.model.specs.Replies.{chargeAnswer, forkAnswer, reply, replyBy}
 use Rattle.model.specs.Book.{enter, bookStep, fed, freshBook}
@@ -25,7 +25,7 @@ use Rattle.model.specs.Worked.{Evening, holds, allHold, table, limitsAnd
 
 -- `allHold` with everything open that an exchange computes with: whoever unfolds it unfolds the whole line
 unfoldable pub computed : List Evening → Bool
-unfolding upd weigh sum any member first climb chain inside firstCommon commonAncestor held usage population sameBytes joined body leadingWord startsIn words digitsFrom numberWord digits decimal spaced named isControlWord askedBy askedFrom firstBad badRest anyIn limitWord valueOf inRange assign hasRoom shown valueText limitsAt withDevice before after pairsFrom pairTexts reset actingLimit consult hasChild hasProcess heldByChild oneWord processLines namesOf nameLine contents path membershipLine chargeChecks forkChecks checks verdict effect step fresh run chargeAnswer forkAnswer reply replyBy holds allHold
+unfolding upd weigh sum any member first climb chain inside firstCommon commonAncestor held usage population sameBytes joined body leadingWord startsIn words digitsFrom numberWord digits decimal spaced named isControlWord askedBy askedFrom firstBad badRest anyIn limitWord valueOf inRange assign hasRoom shown valueText limitsAt withDevice before after pairsFrom pairTexts reset actingLimit consult hasChild hasProcess heldByChild oneWord processLines namesOf nameLine contents path membershipLine chargeChecks forkChecks settingChecks checks verdict effect step fresh run chargeAnswer forkAnswer reply replyBy holds allHold
 computed es = allHold es
 
 pub all-hold : allHold table ≡ true

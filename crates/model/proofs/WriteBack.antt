@@ -19,7 +19,7 @@ use Rattle.model.specs.Names.{baseSettings, settingName, settingNamed}
 use Rattle.model.specs.Settings.{settingController, Allowed, inRange, assign, hasRoom, shown, valueText}
 use Rattle.model.specs.Rules.{noGroupNumber, mayWrite}
 use Rattle.model.specs.Files.{contents}
-use Rattle.model.specs.Calls.{writeSetting, checks, lineValue, verdict}
+use Rattle.model.specs.Calls.{writeSetting, settingChecks, checks, lineValue, verdict}
 use Rattle.model.specs.Effects.{effect}
 use Rattle.model.specs.WellFormed.{WellFormed}
 use Rattle.model.specs.Demands.{shownBy, WrittenBack, WriteBack}
@@ -68,7 +68,7 @@ module _ (t : Tree) (well : WellFormed t) (user g : ℕ) (s : Setting) (live : l
   present-back = rw settingNamed-settingName present
 
   accepted-back : verdict t (writeSetting user g (settingName s) line) ≡ Done
-  unfolding verdict checks Pass
+  unfolding verdict checks settingChecks Pass
   accepted-back =
       let number : noGroupNumber g ≡ false = lt-leb groups g (well .sound .range g live) in
       let name : known (settingNamed (settingName s)) ≡ true = rw settingNamed-settingName in

@@ -69,6 +69,23 @@ forkChecks t p new =
     ∷ bar (processTaken (t .process new)) Eexist
     ∷ []
 
+-- the same of a setting, whose last check asks for room for a device
+unfoldable pub settingChecks : Tree → ℕ → ℕ → List ℕ → List ℕ → List Check
+settingChecks t user g file line =
+    bar (noGroupNumber g) Einval
+    ∷ need (lives t g) Enoent
+    ∷ need (known (settingNamed file)) Enoent
+    ∷ need (passes (settingNamed file) (λ s. on t (settingController s) g)) Enoent
+    ∷ need (mayWrite t user (parents t g)) Eacces
+    ∷ bar (tooLong line) Einval
+    ∷ need (known (lineValue file line)) Einval
+    ∷ need (passes (lineValue file line) inRange) Erange
+    ∷ []
+
+-- "a fifth, unless all "max", is 28, tested last"
+abbrev pub deviceCheck : Tree → ℕ → List ℕ → List ℕ → List Check
+deviceCheck t g file line = need (passes (lineValue file line) (hasRoom (settingsAt t g))) Enospc ∷ []
+
 -- "would pass memory.max", "would hold more live processes inside than pids.max"
 abbrev pub roomCheck : Facts → Resource → ℕ → ℕ → List Check
 roomCheck f r n p = bar (isFull (roomFor f r n (processGroup (f .tree) p))) (shortage r) ∷ []
@@ -118,17 +135,7 @@ checks f (writeControl user g line) =
     ∷ bar (anyController (λ c. leaving (f .tree) g line c && heldByChild (f .tree) g c)) Ebusy
     ∷ bar (not (eqb g 0) && (hasProcess (f .tree) g && anyController (joining (f .tree) g line))) Ebusy
     ∷ []
-checks f (writeSetting user g file line) =
-    bar (noGroupNumber g) Einval
-    ∷ need (lives (f .tree) g) Enoent
-    ∷ need (known (settingNamed file)) Enoent
-    ∷ need (passes (settingNamed file) (λ s. on (f .tree) (settingController s) g)) Enoent
-    ∷ need (mayWrite (f .tree) user (parents (f .tree) g)) Eacces
-    ∷ bar (tooLong line) Einval
-    ∷ need (known (lineValue file line)) Einval
-    ∷ need (passes (lineValue file line) inRange) Erange
-    ∷ need (passes (lineValue file line) (hasRoom (settingsAt (f .tree) g))) Enospc
-    ∷ []
+checks f (writeSetting user g file line) = settingChecks (f .tree) user g file line ++ deviceCheck (f .tree) g file line
 checks f (admit p user) =
     bar (eqb p 0) Einval
     ∷ bar (noProcessNumber p) Einval

@@ -18,7 +18,7 @@ use Rattle.model.specs.Control.{anyIn}
 use Rattle.model.specs.Rules.{mayWrite, mayMove, processGroup, numberLine, lineProcess}
 use Rattle.model.specs.Calls.{writeProcs, checks, verdict}
 use Rattle.model.specs.Effects.{effect}
-use Rattle.model.specs.declared.Controller.the-variants.{Cpu, Memory, Pids}
+use Rattle.model.specs.declared.Controller.the-variants.{Cpu, Io, Memory, Pids}
 use Rattle.model.specs.declared.ProcessId.{ProcessId}
 use Rattle.model.specs.declared.Errno.{Errno}
 use Rattle.model.specs.declared.Errno.the-variants.{Esrch, Einval}
@@ -142,16 +142,21 @@ module _ (t : Tree) (g : ℕ) where
     closed-cpu y = rw (ne-eqb g 0 nz, y, anyIn)
 
     module _ (cpu : sets t g Cpu ≡ false) where
-      pub closed-memory : sets t g Memory ≡ true → true ≡ isClosed t g
+      pub closed-io : sets t g Io ≡ true → true ≡ isClosed t g
       unfolding anyIn
-      closed-memory y = rw (ne-eqb g 0 nz, cpu, y, anyIn)
+      closed-io y = rw (ne-eqb g 0 nz, cpu, y, anyIn)
 
-      pub closed-pids : sets t g Memory ≡ false → (b : Bool) → b ≡ sets t g Pids → b ≡ isClosed t g
-      unfolding anyIn
-      closed-pids n b e =
-          split (sets t g Pids)
-          (λ y. e ∙ y ∙ rw (ne-eqb g 0 nz, cpu, n, y, anyIn))
-          (λ o. e ∙ o ∙ rw (ne-eqb g 0 nz, cpu, n, o, anyIn))
+      module _ (io : sets t g Io ≡ false) where
+        pub closed-memory : sets t g Memory ≡ true → true ≡ isClosed t g
+        unfolding anyIn
+        closed-memory y = rw (ne-eqb g 0 nz, cpu, io, y, anyIn)
+
+        pub closed-pids : sets t g Memory ≡ false → (b : Bool) → b ≡ sets t g Pids → b ≡ isClosed t g
+        unfolding anyIn
+        closed-pids n b e =
+            split (sets t g Pids)
+            (λ y. e ∙ y ∙ rw (ne-eqb g 0 nz, cpu, io, n, y, anyIn))
+            (λ o. e ∙ o ∙ rw (ne-eqb g 0 nz, cpu, io, n, o, anyIn))
 
 -- The whole call: the group's checks, the line's, the move's.
 module _ (xs : List ℕ) (k : Kept xs) (user g : ℕ) (line : List ℕ) where

@@ -114,6 +114,9 @@ fn is_closed(tree: &Tree, group: GroupId) -> bool
     if has(tree, group, Controller::Cpu) {
         return true;
     }
+    if has(tree, group, Controller::Io) {
+        return true;
+    }
     if has(tree, group, Controller::Memory) {
         return true;
     }

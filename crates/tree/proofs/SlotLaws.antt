@@ -1,24 +1,29 @@
--- Slots read off a row, stored in it one by one, and what the tree is after all four. Assumes nothing.
+-- Slots read off a row, stored in it one by one, and what the tree is after all four; and the slots of a live group. Assumes nothing.
 use Prim.Native.Nat.{ℕ, _+_, _*_, _≤_, _<_}
 use native.Mathlib.Omega.{arith}
-use mathlib.Core.Bool.{true, false}
+use mathlib.Core.Bool.{true}
 use mathlib.Core.List.{List, [], _∷_}
-use mathlib.Core.Logic.{_≢_}
 use mathlib.Core.Path.{_≡_, refl, ap, sym, _∙_, subst}
 use lib.Dec.{ltb}
 use lib.ListN.{getD}
 use borrow.Author.Tests.{ltb-true}
-use Rattle.model.specs.Functions.{pick, upd}
-use Rattle.model.specs.Sizes.{groups}
-use Rattle.model.specs.Devices.{DeviceLimits}
+use Rattle.model.specs.Functions.{pick, upd, All}
+use Rattle.model.specs.Sizes.{groups, largestRate}
+use Rattle.model.specs.Devices.{DeviceLimits, Ascending}
+use Rattle.model.specs.DeviceLines.{rateIn}
 use Rattle.model.specs.Tree.{Group, withIo, withSettings, settingsOf, atGroup}
 use Rattle.model.specs.declared.Limit.{Limit}
-use Rattle.model.proofs.FunctionLaws.{split, upd-same, upd-other}
-use Rattle.devices.specs.Slots.{tableOf, Packed, rows}
+use Rattle.model.specs.declared.Limit.the-variants.{NoLimit, Figure}
+use Rattle.model.specs.declared.Key.{Key}
+use Rattle.model.specs.declared.Key.the-variants.{Rbps, Wbps, Riops, Wiops}
+use Rattle.model.proofs.FunctionLaws.{split, upd-same, upd-other, all-map}
+use Rattle.model.proofs.FigureLaws.{between-le}
+use Rattle.devices.specs.Slots.{freeSlot, isFree, lineOf, tableOf, Packed, InOrder, rows}
 use Rattle.devices.specs.declared.slot.Slot.{Slot}
 use Rattle.devices.specs.declared.table.Slots.{Slots}
-use Rattle.tree.specs.Layout.{front, rowWords, firstFlag, firstSlot, slotWords, slotField, used, word, withWord, limitIn, slotIn, slotsIn, groupRow, view, Spare}
-use Rattle.tree.specs.Changes.{GroupRow, SlotPut, Slotted, Wrote, ioSet}
+use Rattle.tree.specs.Layout.{front, rowWords, firstFlag, firstSlot, slotWords, slotField, used, word, withWord, limitIn, slotIn, slotsIn, groupRow, view}
+use Rattle.tree.specs.Changes.{GroupRow, Storable, StorableSlot, StorableSlots, SlotPut, Slotted, Wrote, ioSet}
+use Rattle.tree.specs.Kept.{KeptAt}
 use Rattle.tree.proofs.RowLaws.{RowPut, row-start, also, group-ext, wrote-slots}
 
 -- A slot read word by word, from place i of the words on.
@@ -150,3 +155,53 @@ module _ {xs as′ bs cs ys : List ℕ} {g : ℕ} (s : Slots) (k : GroupRow xs g
       (row-with-slots (word xs g) (word ys g) (λ j l. put .below g j l (omega arith))
       ∙ ap (λ (l : List Slot). withSettings (withIo (tableOf l) (settingsOf (groupRow (word xs g)))) (groupRow (word xs g))) slots-after)
       (wrote-slots (k .low) put (subst Packed (sym slots-after) q))
+
+-- The slots of a live group: ascending too, and with limits that can be stored, as its table is allowed.
+pub in-order : (xs : List ℕ) (g : ℕ) (s : Slots) → KeptAt xs g → Slotted xs g s → InOrder (rows s)
+in-order xs g s k h =
+    record {
+      packed = h .packed (k .kept .spare);
+      ascending = subst (Ascending 0) (sym (h .table)) (k .kept .formed .ranges .within g (k .live) .table .ascending);
+    }
+
+abbrev pub RatesIn : DeviceLimits → Type 0
+RatesIn x = (k : Key) → rateIn (x .limit k) ≡ true
+
+free-in : (s : Slot) → s ≡ freeSlot → RatesIn (lineOf s)
+free-in s e Rbps = rw e
+free-in s e Wbps = rw e
+free-in s e Riops = rw e
+free-in s e Wiops = rw e
+
+-- what is in the table, and what is free
+all-in : (xs : List Slot) → Packed xs → All RatesIn (tableOf xs) → All (λ s. RatesIn (lineOf s)) xs
+unfolding Packed All tableOf
+all-in [] p h = tt
+all-in (x ∷ xs) p h =
+    split (isFree x)
+    (λ y. all-map _ _ (x ∷ xs) free-in (p .0 y))
+    (λ n. let both : All RatesIn (lineOf x ∷ tableOf xs) = rw n at h in (both .0, all-in xs (p .1) (both .1)))
+
+storable-rate : (l : Limit) → rateIn l ≡ true → Storable l
+storable-rate NoLimit e = tt
+storable-rate (Figure n) e = omega (arith, between-le 1 largestRate n e)
+
+storable-slot : (x : Slot) → RatesIn (lineOf x) → StorableSlot x
+storable-slot x h =
+    record {
+      rbps = storable-rate (x .rbps) (h Rbps);
+      wbps = storable-rate (x .wbps) (h Wbps);
+      riops = storable-rate (x .riops) (h Riops);
+      wiops = storable-rate (x .wiops) (h Wiops);
+    }
+
+pub storable-slots : (s : Slots) → Packed (rows s) → All RatesIn (tableOf (rows s)) → StorableSlots s
+unfolding All
+storable-slots s p h =
+    let k = all-in (rows s) p h in
+    record {
+      a = storable-slot (s .a) (k .0);
+      b = storable-slot (s .b) (k .1 .0);
+      c = storable-slot (s .c) (k .1 .1 .0);
+      d = storable-slot (s .d) (k .1 .1 .1 .0);
+    }

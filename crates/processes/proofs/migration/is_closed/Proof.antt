@@ -1,9 +1,9 @@
--- `processes::migration::is_closed` meets its contract: the three controllers are asked one after another. Assumes nothing.
+-- `processes::migration::is_closed` meets its contract: the controllers are asked one after another. Assumes nothing.
 use Prim.Native.Nat.{_<_}
 use mathlib.Core.Path.{sym, _∙_}
 use Rattle.model.specs.Sizes.{groups}
 use Rattle.tree.specs.Layout.{view}
-use Rattle.processes.proofs.MigrationLaws.{closed-root, closed-cpu, closed-memory, closed-pids}
+use Rattle.processes.proofs.MigrationLaws.{closed-root, closed-cpu, closed-io, closed-memory, closed-pids}
 use Rattle.processes.proofs.migration.is_closed.Statement.{statement}
 use Rattle.processes.proofs.migration.is_closed.Tie as tie
 
@@ -28,26 +28,42 @@ returns-2 c =
 has-requires-2 : tie.Need-has-requires-2
 has-requires-2 c κs = low (c .before .before .before .before)
 
--- memory is
+-- io is
 returns-3 : tie.Need-returns-3
 returns-3 c =
-    let m = c .before in
-    let h = m .before .before in
+    let i = c .before in
+    let h = i .before .before in
     let s = h .before .before .before in
-    closed-memory (view (s .args .tree .now)) (s .args .group .0) (h .before .if1 .left) (sym (h .has .ensures) ∙ m .before .if2 .left) (sym (m .has2 .ensures) ∙ c .if3 .taken)
+    closed-io (view (s .args .tree .now)) (s .args .group .0) (h .before .if1 .left) (sym (h .has .ensures) ∙ i .before .if2 .left)
+    (sym (i .has2 .ensures) ∙ c .if3 .taken)
 
 has-requires-3 : tie.Need-has-requires-3
 has-requires-3 c κs = low (c .before .before .before .before .before .before)
 
--- pids, or none
+-- memory is
 returns-4 : tie.Need-returns-4
 returns-4 c =
-    let m = c .before .before in
-    let h = m .before .before in
+    let m = c .before in
+    let i = m .before .before in
+    let h = i .before .before in
     let s = h .before .before .before in
-    closed-pids (view (s .args .tree .now)) (s .args .group .0) (h .before .if1 .left) (sym (h .has .ensures) ∙ m .before .if2 .left) (sym (m .has2 .ensures) ∙ c .before .if3 .left) _ (c .has3 .ensures)
+    closed-memory (view (s .args .tree .now)) (s .args .group .0) (h .before .if1 .left) (sym (h .has .ensures) ∙ i .before .if2 .left)
+    (sym (i .has2 .ensures) ∙ m .before .if3 .left) (sym (m .has3 .ensures) ∙ c .if4 .taken)
+
+has-requires-4 : tie.Need-has-requires-4
+has-requires-4 c κs = low (c .before .before .before .before .before .before .before .before)
+
+-- pids, or none
+returns-5 : tie.Need-returns-5
+returns-5 c =
+    let m = c .before .before in
+    let i = m .before .before in
+    let h = i .before .before in
+    let s = h .before .before .before in
+    closed-pids (view (s .args .tree .now)) (s .args .group .0) (h .before .if1 .left) (sym (h .has .ensures) ∙ i .before .if2 .left)
+    (sym (i .has2 .ensures) ∙ m .before .if3 .left) (sym (m .has3 .ensures) ∙ c .before .if4 .left) _ (c .has4 .ensures)
 
 pub is-closed-spec : {M : Type 1} → statement M
 is-closed-spec =
     tie.close
-    (tie.spec returns has-requires returns-2 has-requires-2 returns-3 has-requires-3 returns-4)
+    (tie.spec returns has-requires returns-2 has-requires-2 returns-3 has-requires-3 returns-4 has-requires-4 returns-5)
