@@ -1,4 +1,4 @@
--- Two tests in either order; what a wish does to a controller, by the wish; some controller of three; what is found of the
+-- Two tests in either order; what a wish does to a controller, by the wish; some controller; what is found of the
 -- wishes is so of the line.
 -- Assumes nothing.
 use Prim.Native.Nat.{ℕ}
@@ -8,7 +8,7 @@ use mathlib.Core.Path.{_≡_, refl, ap, _∙_, fun-ext}
 use Rattle.model.specs.Tree.{Tree}
 use Rattle.model.specs.Control.{Ask, setAfter, isWanted, joins, leaves, asked, anyIn, anyController}
 use Rattle.model.specs.declared.Controller.{Controller}
-use Rattle.model.specs.declared.Controller.the-variants.{Cpu, Memory, Pids}
+use Rattle.model.specs.declared.Controller.the-variants.{Cpu, Io, Memory, Pids}
 use Rattle.text.specs.Control.{askOf, AsksOf}
 use Rattle.text.specs.declared.control.Wishes.{Wishes}
 use Rattle.text.specs.declared.control.Wish.{Wish}
@@ -76,13 +76,17 @@ module _ (f : Flags) where
   unfolding anyIn
   any-cpu y = rw (y, anyIn)
 
-  pub any-memory : f .cpu ≡ false → f .memory ≡ true → true ≡ anyController (flagOf f)
+  pub any-io : f .cpu ≡ false → f .io ≡ true → true ≡ anyController (flagOf f)
   unfolding anyIn
-  any-memory n y = rw (n, y, anyIn)
+  any-io n y = rw (n, y, anyIn)
 
-  pub any-pids : f .cpu ≡ false → f .memory ≡ false → f .pids ≡ anyController (flagOf f)
+  pub any-memory : f .cpu ≡ false → f .io ≡ false → f .memory ≡ true → true ≡ anyController (flagOf f)
   unfolding anyIn
-  any-pids n m = rw (n, m, anyIn) (go (f .pids))
+  any-memory n i y = rw (n, i, y, anyIn)
+
+  pub any-pids : f .cpu ≡ false → f .io ≡ false → f .memory ≡ false → f .pids ≡ anyController (flagOf f)
+  unfolding anyIn
+  any-pids n i m = rw (n, i, m, anyIn) (go (f .pids))
     where
       go : (b : Bool) → b ≡ elim b [ true ↦ true | false ↦ false ]
       go true = refl
@@ -100,12 +104,14 @@ module _ (w : Wishes) (test : Controller → Ask → Bool) (f : Flags) (e : f �
     where
       go : (c : Controller) → flagOf (forEach test w) c ≡ test c (asksOf w c)
       go Cpu = refl
+      go Io = refl
       go Memory = refl
       go Pids = refl
 
 module _ (line : List ℕ) (w : Wishes) (k : AsksOf line w) where
   ask-same : (c : Controller) → asksOf w c ≡ asked line c
   ask-same Cpu = k .cpu
+  ask-same Io = k .io
   ask-same Memory = k .memory
   ask-same Pids = k .pids
 

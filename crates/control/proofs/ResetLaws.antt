@@ -3,7 +3,7 @@
 use Prim.Native.Nat.{ℕ, _+_, _≤_}
 use native.Mathlib.Omega.{arith}
 use mathlib.Core.Bool.{Bool, true, false}
-use mathlib.Core.List.{List}
+use mathlib.Core.List.{List, []}
 use mathlib.Core.Logic.{_≢_}
 use mathlib.Core.Path.{_≡_, refl, ap, sym, _∙_, fun-ext}
 use lib.Dec.{ltb}
@@ -11,7 +11,8 @@ use lib.ListN.{length}
 use borrow.Author.Tests.{ltb-true, ltb-false, lt-ltb, le-ltb}
 use Rattle.model.specs.Functions.{upd, pick}
 use Rattle.model.specs.Sizes.{groups}
-use Rattle.model.specs.Tree.{Tree, Core, Group, Controls, defaultCpu, withLimit, withSet, withSettings, settingsOf, cores, lives}
+use Rattle.model.specs.Tree.{Tree, Core, Group, Controls, defaultCpu, withCpu, withIo, withAmounts, withLimit, withSet, withSettings, settingsOf, cores, lives}
+use Rattle.model.specs.Devices.{DeviceLimits}
 use Rattle.model.specs.Hierarchy.{childOf}
 use Rattle.model.specs.Settings.{reset}
 use Rattle.model.specs.Effects.{resetChild, controlled}
@@ -24,7 +25,7 @@ use Rattle.tree.specs.Layout.{treeWords, view}
 use Rattle.tree.specs.Changes.{Wrote, controlsSet}
 use Rattle.tree.specs.Kept.{Kept}
 use Rattle.control.specs.Flags.{flagOf}
-use Rattle.control.specs.Stores.{withGroups, changedAt, cpuReset, limitReset, Ranged, childrenReset}
+use Rattle.control.specs.Stores.{withGroups, changedAt, cpuReset, ioReset, limitReset, Ranged, childrenReset}
 use Rattle.control.specs.declared.flags.Flags.{Flags}
 use Rattle.control.proofs.WroteLaws.{wrote-as, same-groups, wrote-group-as, wrote-none, wrote-then}
 
@@ -34,11 +35,17 @@ module _ (v : Group) (gone : Bool) where
   pub cpu-kept : gone ≡ false → v ≡ cpuReset gone v
   cpu-kept e = rw e
 
-  pub cpu-gone : gone ≡ true → withSettings (record { limit = v .core .limit; cpu = defaultCpu }) v ≡ cpuReset gone v
+  pub cpu-gone : gone ≡ true → withSettings (withCpu defaultCpu (settingsOf v)) v ≡ cpuReset gone v
   cpu-gone e = rw e
 
+  pub io-kept : gone ≡ false → v ≡ ioReset gone v
+  io-kept e = rw e
+
+  pub io-gone : (xs : List DeviceLimits) → xs ≡ [] → gone ≡ true → withSettings (withIo xs (settingsOf v)) v ≡ ioReset gone v
+  io-gone xs d e = rw (d, e)
+
   pub limit-kept : (r : Resource) → gone ≡ false → v ≡ limitReset r gone v
-  limit-kept r e = rw e (ap (λ l. withSettings (record { limit = l; cpu = v .cpu }) v) (fun-ext (same r)))
+  limit-kept r e = rw e (ap (λ l. withSettings (withAmounts l (settingsOf v)) v) (fun-ext (same r)))
     where
       same : (r q : Resource) → v .core .limit q ≡ withLimit r (v .core .limit r) (v .core .limit) q
       same Pages Pages = refl
@@ -47,16 +54,17 @@ module _ (v : Group) (gone : Bool) where
       same Processes Processes = refl
 
   pub limit-gone : (r : Resource) → gone ≡ true
-      → withSettings (record { limit = withLimit r NoLimit (v .core .limit); cpu = v .cpu }) v ≡ limitReset r gone v
+      → withSettings (withAmounts (withLimit r NoLimit (v .core .limit)) (settingsOf v)) v ≡ limitReset r gone v
   limit-gone r e = rw e
 
 -- ---- a child
 
 reset-each : (gone : Flags) (v : Group)
-    → limitReset Processes (gone .pids) (limitReset Pages (gone .memory) (cpuReset (gone .cpu) v))
+    → limitReset Processes (gone .pids) (limitReset Pages (gone .memory) (ioReset (gone .io) (cpuReset (gone .cpu) v)))
     ≡ withSettings (reset (flagOf gone) (settingsOf v)) v
 unfolding reset
-reset-each gone v = ap (λ l. withSettings (record { limit = l; cpu = pick (gone .cpu) defaultCpu (v .cpu) }) v) (fun-ext go)
+reset-each gone v =
+    ap (λ l. withSettings (record { limit = l; cpu = pick (gone .cpu) defaultCpu (v .cpu); io = pick (gone .io) [] (v .io) }) v) (fun-ext go)
   where
     go : (r : Resource)
         → withLimit Processes (pick (gone .pids) NoLimit (v .core .limit Processes))
@@ -70,15 +78,16 @@ module _ (xs : List ℕ) (g k : ℕ) (gone : Flags) where
       → Wrote xs xs (changedAt (view xs) k (resetChild (view xs) g (flagOf gone) k))
   wrote-no-child l n = wrote-none xs k l (sym (reset-other (view xs) g (flagOf gone) k (view xs .group k) n))
 
-  pub wrote-child : (as′ bs ys : List ℕ) → childOf g k (cores (view xs) k) ≡ true
+  pub wrote-child : (as′ bs cs ys : List ℕ) → childOf g k (cores (view xs) k) ≡ true
       → Wrote xs as′ (changedAt (view xs) k (cpuReset (gone .cpu)))
-      → Wrote as′ bs (changedAt (view as′) k (limitReset Pages (gone .memory)))
-      → Wrote bs ys (changedAt (view bs) k (limitReset Processes (gone .pids)))
+      → Wrote as′ bs (changedAt (view as′) k (ioReset (gone .io)))
+      → Wrote bs cs (changedAt (view bs) k (limitReset Pages (gone .memory)))
+      → Wrote cs ys (changedAt (view cs) k (limitReset Processes (gone .pids)))
       → Wrote xs ys (changedAt (view xs) k (resetChild (view xs) g (flagOf gone) k))
-  wrote-child as′ bs ys y p q s =
+  wrote-child as′ bs cs ys y p i q s =
       wrote-group-as xs k (reset-each gone (view xs .group k) ∙ sym (reset-child (view xs) g (flagOf gone) k (view xs .group k) y))
-      (wrote-then xs k bs ys _ (limitReset Processes (gone .pids))
-      (wrote-then xs k as′ bs _ (limitReset Pages (gone .memory)) p q) s)
+      (wrote-then xs k cs ys _ (limitReset Processes (gone .pids))
+      (wrote-then xs k bs cs _ (limitReset Pages (gone .memory)) (wrote-then xs k as′ bs _ (ioReset (gone .io)) p i) q) s)
 
 -- ---- the children among the first n numbers
 
@@ -156,7 +165,7 @@ module _ (xs : List ℕ) (g : ℕ) (gone : Controls) where
 -- ---- the set, and then the children
 
 module _ (xs ys : List ℕ) (g : ℕ) (set : Flags)
-    (p : Wrote xs ys (controlsSet (view xs) g (set .cpu) (set .memory) (set .pids))) where
+    (p : Wrote xs ys (controlsSet (view xs) g (set .cpu) (set .io) (set .memory) (set .pids))) where
   abbrev set-first : ℕ → Group
   set-first = upd (view xs .group) g (withSet (flagOf set) (view xs .group g))
 

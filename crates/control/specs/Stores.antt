@@ -2,12 +2,12 @@
 -- settings in all children." Assumes nothing.
 use Prim.Native.Nat.{ℕ, _<_}
 use mathlib.Core.Bool.{Bool, true}
-use mathlib.Core.List.{List}
+use mathlib.Core.List.{List, []}
 use mathlib.Core.Path.{_≡_}
 use lib.ListN.{length}
 use Rattle.model.specs.Functions.{pick}
 use Rattle.model.specs.Sizes.{groups}
-use Rattle.model.specs.Tree.{Tree, Group, Controls, defaultCpu, withSettings, withLimit, atGroup, lives}
+use Rattle.model.specs.Tree.{Tree, Group, Controls, defaultCpu, withSettings, withCpu, withIo, withAmounts, settingsOf, withLimit, atGroup, lives}
 use Rattle.model.specs.Effects.{resetChild}
 use Rattle.model.specs.declared.Resource.{Resource}
 use Rattle.model.specs.declared.Limit.the-variants.{NoLimit}
@@ -23,11 +23,14 @@ changedAt t k f = atGroup t k (f (t .group k))
 
 -- a group with the settings of one controller at their defaults, where it is gone
 abbrev pub cpuReset : Bool → Group → Group
-cpuReset gone v = withSettings (record { limit = v .core .limit; cpu = pick gone defaultCpu (v .cpu) }) v
+cpuReset gone v = withSettings (withCpu (pick gone defaultCpu (v .cpu)) (settingsOf v)) v
+
+abbrev pub ioReset : Bool → Group → Group
+ioReset gone v = withSettings (withIo (pick gone [] (v .io)) (settingsOf v)) v
 
 abbrev pub limitReset : Resource → Bool → Group → Group
 limitReset r gone v =
-    withSettings (record { limit = withLimit r (pick gone NoLimit (v .core .limit r)) (v .core .limit); cpu = v .cpu }) v
+    withSettings (withAmounts (withLimit r (pick gone NoLimit (v .core .limit r)) (v .core .limit)) (settingsOf v)) v
 
 -- words whose live groups have numbers in range
 pub record Ranged (xs : List ℕ) : Type 0 where

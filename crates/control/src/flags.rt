@@ -19,6 +19,7 @@ use tree::rule::is_available;
 // A flag for each controller.
 pub struct Flags {
     pub cpu: bool,
+    pub io: bool,
     pub memory: bool,
     pub pids: bool,
 }
@@ -38,6 +39,10 @@ pub fn is_any(f: Flags) -> bool
 {
     let cpu = f.cpu;
     if cpu {
+        return true;
+    }
+    let io = f.io;
+    if io {
         return true;
     }
     let memory = f.memory;
@@ -125,10 +130,12 @@ pub fn for_each(t: &Tree, g: GroupId, wishes: Wishes, test: Test) -> Flags
     ensures { λ r. ⌜ r ≡ forEach (testAt test (view (now (t .entry))) (g .0)) wishes ⌝ }
 {
     let cpu = wishes.cpu;
+    let io = wishes.io;
     let memory = wishes.memory;
     let pids = wishes.pids;
     Flags {
         cpu: passes(t, g, Controller::Cpu, cpu, test),
+        io: passes(t, g, Controller::Io, io, test),
         memory: passes(t, g, Controller::Memory, memory, test),
         pids: passes(t, g, Controller::Pids, pids, test),
     }

@@ -3,11 +3,13 @@ ghost use Rattle.model.specs.Effects.{controlled};
 ghost use Rattle.tree.specs.Layout.{view};
 ghost use Rattle.tree.specs.Changes.{GroupRow, Wrote};
 ghost use Rattle.control.specs.Flags.{flagOf};
-ghost use Rattle.control.specs.Stores.{changedAt, cpuReset, limitReset, Ranged, childReset, childrenReset};
+ghost use Rattle.control.specs.Stores.{changedAt, cpuReset, ioReset, limitReset, Ranged, childReset, childrenReset};
 use super::flags::Flags;
+use devices::table::empty;
 use model::GroupId;
 use model::Limit;
 use model::Resource;
+use tree::device::set_slots;
 use tree::group::set_controls;
 use tree::layout::GROUPS;
 use tree::layout::Tree;
@@ -26,6 +28,17 @@ fn reset_cpu(t: &mut Tree, k: GroupId, gone: bool)
         return;
     }
     set_cpu(t, k, DEFAULT_WEIGHT, Limit::NoLimit, DEFAULT_PERIOD);
+}
+
+// No device in io.max of a group, where io is gone.
+fn reset_io(t: &mut Tree, k: GroupId, gone: bool)
+    requires { ⌜ GroupRow (now t) (k .0) ⌝ }
+    ensures { λ _. ⌜ Wrote (now (t .entry)) (now (t .exit)) (changedAt (view (now (t .entry))) (k .0) (ioReset gone)) ⌝ }
+{
+    if !gone {
+        return;
+    }
+    set_slots(t, k, empty());
 }
 
 // No limit of a resource in a group, where its controller is gone.
@@ -48,6 +61,7 @@ fn reset_child(t: &mut Tree, g: GroupId, k: GroupId, gone: Flags)
         return;
     }
     reset_cpu(t, k, gone.cpu);
+    reset_io(t, k, gone.io);
     reset_limit(t, k, Resource::Pages, gone.memory);
     reset_limit(t, k, Resource::Processes, gone.pids);
 }
@@ -69,6 +83,6 @@ pub fn set_and_reset(t: &mut Tree, g: GroupId, set: Flags, gone: Flags)
     requires { ⌜ Ranged (now t) × GroupRow (now t) (g .0) ⌝ }
     ensures { λ _. ⌜ Wrote (now (t .entry)) (now (t .exit)) (controlled (view (now (t .entry))) (g .0) (flagOf set) (flagOf gone)) ⌝ }
 {
-    set_controls(t, g, set.cpu, set.memory, set.pids);
+    set_controls(t, g, set.cpu, set.io, set.memory, set.pids);
     reset_children(t, g, gone);
 }

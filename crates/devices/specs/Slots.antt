@@ -55,6 +55,9 @@ pub record InOrder (xs : List Slot) : Type 0 where
 abbrev pub rows : Slots → List Slot
 rows s = s .a ∷ s .b ∷ s .c ∷ s .d ∷ []
 
+abbrev pub noSlots : Slots
+noSlots = record { a = freeSlot; b = freeSlot; c = freeSlot; d = freeSlot }
+
 -- One place of a pass that carries a slot.
 abbrev pub stepOf : Slot → Slot → Placed
 stepOf x c = record { kept = x; carried = c }

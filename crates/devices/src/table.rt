@@ -4,7 +4,7 @@ ghost use Prim.Native.Nat.{_*_, _<_};
 ghost use mathlib.Core.Logic.{_≢_};
 ghost use mathlib.Core.Path.{_≡_};
 ghost use Rattle.model.specs.Sizes.{deviceNumbers};
-ghost use Rattle.devices.specs.Slots.{stepped, slotsOf, passed, without, rows, slotOf, InOrder, Written, LineWritten};
+ghost use Rattle.devices.specs.Slots.{noSlots, stepped, slotsOf, passed, without, rows, slotOf, InOrder, Written, LineWritten};
 use super::slot::Slot;
 use super::slot::changed;
 use super::slot::free;
@@ -17,6 +17,18 @@ pub struct Slots {
     pub b: Slot,
     pub c: Slot,
     pub d: Slot,
+}
+
+// No device.
+pub fn empty() -> Slots
+    ensures { λ r. ⌜ r ≡ noSlots ⌝ }
+{
+    Slots {
+        a: free(),
+        b: free(),
+        c: free(),
+        d: free(),
+    }
 }
 
 // What stays in a place, and what is carried on.

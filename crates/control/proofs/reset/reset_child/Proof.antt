@@ -1,4 +1,4 @@
--- `control::reset::reset_child` meets its contract: three stores one after another are the reset of all that is gone.
+-- `control::reset::reset_child` meets its contract: the stores one after another are the reset of all that is gone.
 -- Assumes nothing.
 use mathlib.Core.Path.{sym, _∙_}
 use borrow.Author.Tests.{not-true, not-false}
@@ -19,6 +19,9 @@ returns c =
 reset-cpu-requires : tie.Need-reset-cpu-requires
 reset-cpu-requires c κs = search needs
 
+reset-io-requires : tie.Need-reset-io-requires
+reset-io-requires c κs = search needs
+
 reset-limit-requires : tie.Need-reset-limit-requires
 reset-limit-requires c κs = search needs
 
@@ -28,12 +31,13 @@ reset-limit-requires-2 c κs = search needs
 returns-2 : tie.Need-returns-2
 returns-2 c =
     let pages = c .before .before in
-    let cpu = pages .before .before in
+    let io = pages .before .before in
+    let cpu = io .before .before in
     let e = cpu .before .before in
     let i = e .before in
     let s = i .before .before in
-    wrote-child (s .args .t .now) _ _ (s .args .gone) _ _ _ (sym (i .is-child .ensures) ∙ not-false _ (e .if1 .left))
-    (cpu .reset-cpu .ensures) (pages .reset-limit .ensures) (c .reset-limit2 .ensures)
+    wrote-child (s .args .t .now) _ _ (s .args .gone) _ _ _ _ (sym (i .is-child .ensures) ∙ not-false _ (e .if1 .left))
+    (cpu .reset-cpu .ensures) (io .reset-io .ensures) (pages .reset-limit .ensures) (c .reset-limit2 .ensures)
 
 pub reset-child-spec : {M : Type 1} → statement M
 reset-child-spec =
@@ -42,6 +46,7 @@ reset-child-spec =
     is-child-requires
     returns
     reset-cpu-requires
+    reset-io-requires
     reset-limit-requires
     reset-limit-requires-2
     returns-2)
