@@ -3,45 +3,26 @@
 ghost use mathlib.Core.List.{[], _∷_};
 ghost use mathlib.Core.Path.{_≡_};
 ghost use Rattle.model.specs.Text.{lineWords};
-ghost use Rattle.model.specs.Settings.{limitWord, valueOf};
-ghost use Rattle.text.specs.Value.{asLimitWord, asLineValue};
+ghost use Rattle.model.specs.Settings.{valueOf};
+ghost use Rattle.text.specs.Value.{asLineValue};
+use super::device::parse_device;
+use super::limit::LimitWord;
+use super::limit::parse_limit;
 use super::line::Words;
-use super::line::is_same;
 use super::line::sole_word;
 use super::line::split;
 use super::number::Number;
 use super::number::parse_number;
 use super::number::parse_number_line;
-use model::Limit;
 use model::Resource;
 use model::Setting;
 use model::SettingValue;
-
-// What a word says as a limit.
-pub enum LimitWord {
-    Of(Limit),
-    Malformed,
-}
 
 // What a line gives a setting.
 pub enum LineValue {
     Of(SettingValue),
     // 22 not as many words as the setting takes, or a word of another form
     Malformed,
-}
-
-// "max", or a number word.
-fn parse_limit(word: &[u8]) -> LimitWord
-    ensures { λ r. ⌜ r ≡ asLimitWord (limitWord (now (word .entry))) ⌝ }
-{
-    if is_same(word, b"max") {
-        return LimitWord::Of(Limit::NoLimit);
-    }
-    let number = parse_number(word);
-    let Number::Figure(n) = number else {
-        return LimitWord::Malformed;
-    };
-    LimitWord::Of(Limit::Figure(n))
 }
 
 fn parse_weight(line: &[u8]) -> LineValue
@@ -118,6 +99,7 @@ pub fn parse_value(setting: Setting, line: &[u8]) -> LineValue
     match setting {
         Setting::CpuWeight => parse_weight(line),
         Setting::CpuMax => parse_bandwidth(line),
+        Setting::IoMax => parse_device(line),
         Setting::Max(resource) => parse_maximum(resource, line),
     }
 }

@@ -2,7 +2,7 @@
 use mathlib.Core.Path.{sym, _∙_}
 use borrow.Author.Tests.{not-true, not-false}
 use borrow.Author.Needs.{needs}
-use Rattle.text.proofs.ValueLaws.{quota-out, quota-in}
+use Rattle.text.proofs.RangeLaws.{quota-out, quota-in}
 use Rattle.text.proofs.range.is_bandwidth.Statement.{statement}
 use Rattle.text.proofs.range.is_bandwidth.Tie as tie
 
