@@ -1,10 +1,10 @@
 -- Laws of io.max's pairs: a key's name, one pair by its key and its limit, reading pairs with clipped figures, and the turns of the
 -- loop that reads them. Assumes nothing.
 use Prim.Native.Nat.{ℕ}
-use mathlib.Core.Bool.{Bool, true, false}
+use mathlib.Core.Bool.{true, false}
 use mathlib.Core.List.{List, [], _∷_}
 use mathlib.Core.Option.{Option, none, some}
-use mathlib.Core.Path.{_≡_, refl, ap, ap₂, sym, _∙_}
+use mathlib.Core.Path.{_≡_, refl, ap, ap₂, _∙_}
 use native.Mathlib.Omega.{arith}
 use Rattle.model.specs.Functions.{pick, mapped}
 use Rattle.model.specs.Text.{sameBytes}

@@ -1,4 +1,4 @@
--- Laws of ranges: a range tested from below, the two words of cpu.max, a line of io.max; and clipping. Assumes nothing.
+-- Laws of ranges: a range tested from below, tests one after another, the device of io.max; and clipping. Assumes nothing.
 use Prim.Native.Nat.{ℕ, _-_, _^_, _≤_, _<_}
 use mathlib.Core.Bool.{Bool, true, false, _&&_}
 use mathlib.Core.Path.{_≡_, refl, ap, ap₂, sym, _∙_}
@@ -8,7 +8,7 @@ use borrow.Author.Tests.{le-leb, lt-leb, ltb-true, ltb-false, lt-ltb, le-ltb}
 use Rattle.model.specs.Sizes.{deviceNumbers, largestRate}
 use Rattle.model.specs.Devices.{pairOf}
 use Rattle.model.specs.DeviceLines.{deviceIn, pairIn, pairsIn}
-use Rattle.model.specs.Settings.{between, figureIn, quotaIn, largest, inRange, mapLimit}
+use Rattle.model.specs.Settings.{between, figureIn, largest, inRange}
 use Rattle.model.specs.declared.Resource.{Resource}
 use Rattle.model.specs.declared.Resource.the-variants.{Pages, Processes}
 use Rattle.model.specs.declared.Limit.{Limit}
@@ -25,6 +25,7 @@ use Rattle.model.proofs.FigureLaws.{between-le}
 use Rattle.model.proofs.DeviceLaws.{of-keys}
 use Rattle.model.proofs.SettingLaws.{range-of-quota, range-of-period}
 use Rattle.text.specs.Number.{clip}
+use Rattle.text.specs.Limit.{clippedLimit}
 use Rattle.text.specs.Pair.{clippedPair, clippedPairs}
 use Rattle.text.specs.Value.{clipped}
 
@@ -44,21 +45,15 @@ module _ (low high n : ℕ) where
       go true = refl
       go false = refl
 
--- two tests, one after the other
+-- ---- tests, one after another: a, then b
+
 pub test-fails : (a b : Bool) → a ≡ false → false ≡ (a && b)
 test-fails a b h = rw h
 
 pub test-passes : (a b t : Bool) → a ≡ true → t ≡ b → t ≡ (a && b)
 test-passes a b t h e = e ∙ rw h
 
-module _ (q : Limit) (p : ℕ) where
-  pub quota-out : quotaIn q ≡ false → false ≡ inRange (Bandwidth q p)
-  unfolding inRange
-  quota-out h = rw h
-
-  pub quota-in : (b : Bool) → quotaIn q ≡ true → b ≡ between 1000 1000000 p → b ≡ inRange (Bandwidth q p)
-  unfolding inRange
-  quota-in b h e = e ∙ rw h
+-- ---- a device
 
 module _ (a b : ℕ) (p : Pairs) where
   pub major-out : deviceNumbers ≤ a → false ≡ inRange (Device a b p)
@@ -86,11 +81,11 @@ module _ (low high : ℕ) (fits : high < 2 ^ 64 - 1) where
   clip-between : (n : ℕ) → between low high n ≡ true → clip n ≡ n
   clip-between n h = omega (arith, between-le low high n h)
 
-  figureIn-clip : (l : Limit) → figureIn low high (mapLimit clip l) ≡ figureIn low high l
+  figureIn-clip : (l : Limit) → figureIn low high (clippedLimit l) ≡ figureIn low high l
   figureIn-clip NoLimit = refl
   figureIn-clip (Figure n) = between-clip n
 
-  clip-figureIn : (l : Limit) → figureIn low high l ≡ true → mapLimit clip l ≡ l
+  clip-figureIn : (l : Limit) → figureIn low high l ≡ true → clippedLimit l ≡ l
   clip-figureIn NoLimit h = refl
   clip-figureIn (Figure n) h = ap Figure (clip-between n h)
 

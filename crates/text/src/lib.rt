@@ -7,7 +7,6 @@ pub mod control; // control lines
 pub mod limit; // limits as words
 pub mod cut; // a word in two parts
 pub mod pair; // the pairs of io.max
-pub mod device; // lines of io.max
 pub mod value; // what a line gives a setting
 pub mod range; // the ranges of values
 pub mod amount; // figures of files and amounts of resources

@@ -2,26 +2,33 @@
 // malformed word of a line counts before a figure of it that is out of its range. A figure of any size is well formed.
 ghost use mathlib.Core.List.{[], _∷_};
 ghost use mathlib.Core.Path.{_≡_};
-ghost use Rattle.model.specs.Text.{lineWords};
+ghost use Rattle.model.specs.Text.{words, lineWords};
 ghost use Rattle.model.specs.Settings.{valueOf};
 ghost use Rattle.text.specs.Value.{asLineValue};
-use super::device::parse_device;
+use super::cut::part_after;
+use super::cut::part_before;
 use super::limit::LimitWord;
 use super::limit::parse_limit;
 use super::line::Words;
+use super::line::line_end;
+use super::line::next_word;
 use super::line::sole_word;
 use super::line::split;
 use super::number::Number;
 use super::number::parse_number;
 use super::number::parse_number_line;
+use super::pair::PairsWord;
+use super::pair::parse_pairs;
 use model::Resource;
 use model::Setting;
 use model::SettingValue;
 
+const COLON: u8 = 58;
+
 // What a line gives a setting.
 pub enum LineValue {
     Of(SettingValue),
-    // 22 not as many words as the setting takes, or a word of another form
+    // 22 not as many words as the setting takes, a word of another form, or a key given twice
     Malformed,
 }
 
@@ -80,6 +87,38 @@ fn parse_bandwidth(line: &[u8]) -> LineValue
         }
         Words::More => LineValue::Malformed,
     }
+}
+
+fn parse_device_and_pairs(device: &[u8], rest: &[u8]) -> LineValue
+    ensures { λ r. ⌜ r ≡ asLineValue (valueOf Setting.IoMax (now (device .entry) ∷ words (now (rest .entry)))) ⌝ }
+{
+    let major = parse_number(part_before(device, COLON));
+    let Number::Figure(a) = major else {
+        return LineValue::Malformed;
+    };
+    let minor = parse_number(part_after(device, COLON));
+    let Number::Figure(b) = minor else {
+        return LineValue::Malformed;
+    };
+    let pairs = parse_pairs(rest);
+    let PairsWord::Of(p) = pairs else {
+        return LineValue::Malformed;
+    };
+    LineValue::Of(SettingValue::Device(a, b, p))
+}
+
+// io.max: a device, major:minor, then any pairs.
+fn parse_device(line: &[u8]) -> LineValue
+    ensures { λ r. ⌜ r ≡ asLineValue (valueOf Setting.IoMax (lineWords (now (line .entry)))) ⌝ }
+{
+    let n = line_end(line);
+    let word = next_word(&line[..n], 0);
+    let s = word.start;
+    let e = word.end;
+    if s == n {
+        return LineValue::Malformed;
+    }
+    parse_device_and_pairs(&line[s..e], &line[e..n])
 }
 
 fn parse_maximum(resource: Resource, line: &[u8]) -> LineValue

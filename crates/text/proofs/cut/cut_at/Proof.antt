@@ -1,7 +1,7 @@
 -- `text::cut::cut_at` meets its contract: `i` and the bytes from `i` on that come before the byte add up to where it stands. The
 -- measure is what is left of the word. Assumes nothing.
 use Prim.Native.Nat.{_+_, _-_, _≤_}
-use mathlib.Core.Path.{_≡_, refl}
+use mathlib.Core.Path.{_≡_}
 use native.Mathlib.Omega.{arith}
 use lib.ListN.{length, drop}
 use Rattle.model.specs.DeviceLines.{before}

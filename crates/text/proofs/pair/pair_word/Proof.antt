@@ -1,5 +1,5 @@
 -- `text::pair::pair_word` meets its contract: the key, the limit, and whether the key was given decide. Assumes nothing.
-use mathlib.Core.Path.{_≡_, refl, ap, sym, _∙_}
+use mathlib.Core.Path.{refl, ap, sym, _∙_}
 use borrow.Author.Needs.{needs}
 use Rattle.model.specs.DeviceLines.{isGiven}
 use Rattle.text.proofs.PairLaws.{pair-read, pair-twice, pair-once}

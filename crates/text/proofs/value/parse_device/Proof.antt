@@ -1,4 +1,4 @@
--- `text::device::parse_device` meets its contract: the first word of the line, and the words of the rest. Assumes nothing.
+-- `text::value::parse_device` meets its contract: the first word of the line, and the words of the rest. Assumes nothing.
 use Prim.Native.Nat.{ℕ, _≤_}
 use native.Mathlib.Omega.{arith}
 use mathlib.Core.List.{List}
@@ -12,8 +12,8 @@ use Rattle.text.specs.declared.value.LineValue.{LineValue}
 use Rattle.text.proofs.LineLaws.{line-end-inside}
 use Rattle.text.proofs.SplitLaws.{text-length, split-empty, inside-line, first-of-line}
 use Rattle.text.proofs.ValueLaws.{no-device}
-use Rattle.text.proofs.device.parse_device.Statement.{statement}
-use Rattle.text.proofs.device.parse_device.Tie as tie
+use Rattle.text.proofs.value.parse_device.Statement.{statement}
+use Rattle.text.proofs.value.parse_device.Tie as tie
 
 abbrev line-of : tie.After-line-end → List ℕ
 line-of e = e .before .before .args .line .now
@@ -46,35 +46,35 @@ returns c =
     let e = w .before .before in
     no-device _ (split-empty (line-of e) _ (e .line-end .ensures) _ (w .next-word .ensures) (c .if1 .taken))
 
-sub-parse-parts : tie.Need-sub-parse-parts
-sub-parse-parts c = search needs
+sub-parse-device-and-pairs : tie.Need-sub-parse-device-and-pairs
+sub-parse-device-and-pairs c = search needs
 
-part-parse-parts-start : tie.Need-part-parse-parts-start
-part-parse-parts-start c = search needs
+part-parse-device-and-pairs-start : tie.Need-part-parse-device-and-pairs-start
+part-parse-device-and-pairs-start c = search needs
 
-part-parse-parts-end : tie.Need-part-parse-parts-end
-part-parse-parts-end c = omega (arith, first-inside (c .before))
+part-parse-device-and-pairs-end : tie.Need-part-parse-device-and-pairs-end
+part-parse-device-and-pairs-end c = omega (arith, first-inside (c .before))
 
-sub-parse-parts-2 : tie.Need-sub-parse-parts-2
-sub-parse-parts-2 c = in-text (c .before .before)
+sub-parse-device-and-pairs-2 : tie.Need-sub-parse-device-and-pairs-2
+sub-parse-device-and-pairs-2 c = in-text (c .before .before)
 
-part-parse-parts-start-2 : tie.Need-part-parse-parts-start-2
-part-parse-parts-start-2 c = in-text (c .before .before)
+part-parse-device-and-pairs-start-2 : tie.Need-part-parse-device-and-pairs-start-2
+part-parse-device-and-pairs-start-2 c = in-text (c .before .before)
 
-part-parse-parts-end-2 : tie.Need-part-parse-parts-end-2
-part-parse-parts-end-2 c =
+part-parse-device-and-pairs-end-2 : tie.Need-part-parse-device-and-pairs-end-2
+part-parse-device-and-pairs-end-2 c =
     let e = c .before .before .before .before in
     line-end-inside (line-of e) _ (e .line-end .ensures)
 
-parse-parts-requires : tie.Need-parse-parts-requires
-parse-parts-requires c κs = search needs
+parse-device-and-pairs-requires : tie.Need-parse-device-and-pairs-requires
+parse-device-and-pairs-requires c κs = search needs
 
 returns-2 : tie.Need-returns-2
 returns-2 c =
     let f = c .before .before .before in
     let w = f .before in
     let e = w .before .before in
-    c .parse-parts .ensures ∙ ap reads-as (sym (first-of-line (line-of e) _ (e .line-end .ensures) _ (w .next-word .ensures) (f .if1 .left)))
+    c .parse-device-and-pairs .ensures ∙ ap reads-as (sym (first-of-line (line-of e) _ (e .line-end .ensures) _ (w .next-word .ensures) (f .if1 .left)))
 
 pub parse-device-spec : {M : Type 1} → statement M
 parse-device-spec =
@@ -84,11 +84,11 @@ parse-device-spec =
     slice-aggregate-next-word
     next-word-requires
     returns
-    sub-parse-parts
-    part-parse-parts-start
-    part-parse-parts-end
-    sub-parse-parts-2
-    part-parse-parts-start-2
-    part-parse-parts-end-2
-    parse-parts-requires
+    sub-parse-device-and-pairs
+    part-parse-device-and-pairs-start
+    part-parse-device-and-pairs-end
+    sub-parse-device-and-pairs-2
+    part-parse-device-and-pairs-start-2
+    part-parse-device-and-pairs-end-2
+    parse-device-and-pairs-requires
     returns-2)

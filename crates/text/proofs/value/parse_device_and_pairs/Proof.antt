@@ -1,10 +1,10 @@
--- `text::device::parse_parts` meets its contract: the two numbers and the pairs decide. Assumes nothing.
+-- `text::value::parse_device_and_pairs` meets its contract: the two numbers and the pairs decide. Assumes nothing.
 use mathlib.Core.Path.{refl, sym, _∙_}
 use borrow.Author.Needs.{needs}
 use Rattle.model.specs.Text.{words}
 use Rattle.text.proofs.ValueLaws.{device-read}
-use Rattle.text.proofs.device.parse_parts.Statement.{statement}
-use Rattle.text.proofs.device.parse_parts.Tie as tie
+use Rattle.text.proofs.value.parse_device_and_pairs.Statement.{statement}
+use Rattle.text.proofs.value.parse_device_and_pairs.Tie as tie
 
 part-before-requires : tie.Need-part-before-requires
 part-before-requires c κs = search needs
@@ -24,7 +24,7 @@ returns c =
     let n = c .before .before in
     let b = n .before in
     let a = b .before .before .before .args in
-    device-read (a .word .now) (words (a .rest .now)) _ _ _ _ _ (b .part-before .ensures) (sym (c .enum-told .given .1) ∙ n .parse-number .ensures)
+    device-read (a .device .now) (words (a .rest .now)) _ _ _ _ _ (b .part-before .ensures) (sym (c .enum-told .given .1) ∙ n .parse-number .ensures)
     refl refl refl
 
 part-after-requires : tie.Need-part-after-requires
@@ -47,7 +47,7 @@ returns-2 c =
     let n = m .before .before in
     let b = n .before in
     let a = b .before .before .before .args in
-    device-read (a .word .now) (words (a .rest .now)) _ _ _ _ _ (b .part-before .ensures) (sym (m .major .given .1) ∙ n .parse-number .ensures)
+    device-read (a .device .now) (words (a .rest .now)) _ _ _ _ _ (b .part-before .ensures) (sym (m .major .given .1) ∙ n .parse-number .ensures)
     (o .before .part-after .ensures) (sym (c .enum-told2 .given .1) ∙ o .parse-number2 .ensures) refl
 
 parse-pairs-requires : tie.Need-parse-pairs-requires
@@ -69,7 +69,7 @@ returns-3 c =
     let n = m .before .before in
     let b = n .before in
     let a = b .before .before .before .args in
-    device-read (a .word .now) (words (a .rest .now)) _ _ _ _ _ (b .part-before .ensures) (sym (m .major .given .1) ∙ n .parse-number .ensures)
+    device-read (a .device .now) (words (a .rest .now)) _ _ _ _ _ (b .part-before .ensures) (sym (m .major .given .1) ∙ n .parse-number .ensures)
     (o .before .part-after .ensures) (sym (k .minor .given .1) ∙ o .parse-number2 .ensures)
     (sym (c .enum-told3 .given .1) ∙ p .parse-pairs .ensures)
 
@@ -83,12 +83,12 @@ returns-4 c =
     let n = m .before .before in
     let b = n .before in
     let a = b .before .before .before .args in
-    device-read (a .word .now) (words (a .rest .now)) _ _ _ _ _ (b .part-before .ensures) (sym (m .major .given .1) ∙ n .parse-number .ensures)
+    device-read (a .device .now) (words (a .rest .now)) _ _ _ _ _ (b .part-before .ensures) (sym (m .major .given .1) ∙ n .parse-number .ensures)
     (o .before .part-after .ensures) (sym (k .minor .given .1) ∙ o .parse-number2 .ensures)
     (sym (q .pairs .given .1) ∙ p .parse-pairs .ensures)
 
-pub parse-parts-spec : {M : Type 1} → statement M
-parse-parts-spec =
+pub parse-device-and-pairs-spec : {M : Type 1} → statement M
+parse-device-and-pairs-spec =
     tie.close
     (tie.spec
     part-before-requires
