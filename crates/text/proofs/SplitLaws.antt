@@ -56,6 +56,14 @@ module _ (line : List ℕ) (n : ℕ) (e : LineEnd line n) where
     pub split-empty : p .start ≡ n → SplitAs line Empty
     split-empty m = words-of-text ∙ none-of-text 0 p w m
 
+    -- the first word, and the words of the rest
+    pub inside-line : Inside line p
+    inside-line = inside-front line n (line-end-inside line n e) p (w .inside)
+
+    pub first-of-line : (p .start ≡ n → ⊥) → lineWords line ≡ spanned line p ∷ words (take (n - p .end) (drop (p .end) line))
+    first-of-line m =
+        words-of-text ∙ next-of-text 0 p w m ∙ ap (λ (z : List ℕ). spanned line p ∷ words z) (drop-take (p .end) n line)
+
     module _ (m : p .start ≡ n → ⊥) (q : Span) (v : NextWord (take n line) (p .end) q) where
       pub split-one : q .start ≡ n → SplitAs line (One p)
       split-one k =

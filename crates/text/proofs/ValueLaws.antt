@@ -1,120 +1,32 @@
--- Laws of values: ranges and clipping, the forms of a limit and of a line, and what an answer of `parse_value` says. Assumes
--- nothing.
-use Prim.Native.Nat.{ℕ, _-_, _^_, _≤_, _<_}
-use mathlib.Core.Bool.{Bool, true, false, _&&_}
+-- Laws of values: the forms of a line, and what an answer of `parse_value` says. Assumes nothing.
+use Prim.Native.Nat.{ℕ, _<_}
+use mathlib.Core.Bool.{true, false}
 use mathlib.Core.List.{List, [], _∷_}
 use mathlib.Core.Option.{Option, none, some}
 use mathlib.Core.Path.{_≡_, refl, ap, ap₂, sym, _∙_}
 use native.Mathlib.Omega.{arith}
-use lib.Dec.{leb, ltb}
 use lib.ListN.{length}
-use borrow.Author.Tests.{le-leb, lt-leb, ltb-true, ltb-false}
 use Rattle.model.specs.Functions.{known, passes, mapped}
-use Rattle.model.specs.Text.{bytes, sameBytes, oneWord, numberWord, lineWords}
-use Rattle.model.specs.Settings.{limitWord, bandwidthOf, valueOf, between, figureIn, quotaIn, largest, inRange, mapLimit}
+use Rattle.model.specs.Text.{sameBytes, oneWord, numberWord, lineWords}
+use Rattle.model.specs.Settings.{limitWord, bandwidthOf, valueOf, inRange}
+use Rattle.model.specs.DeviceLines.{colon, before, after, noPairs, pairsFrom, deviceValue}
 use Rattle.model.specs.declared.Resource.{Resource}
-use Rattle.model.specs.declared.Resource.the-variants.{Pages, Processes}
 use Rattle.model.specs.declared.Limit.{Limit}
-use Rattle.model.specs.declared.Limit.the-variants.{NoLimit, Figure}
-use Rattle.model.specs.declared.Setting.the-variants.{CpuWeight, CpuMax, Max}
+use Rattle.model.specs.declared.Pairs.{Pairs}
+use Rattle.model.specs.declared.Setting.the-variants.{CpuWeight, CpuMax, IoMax, Max}
 use Rattle.model.specs.declared.SettingValue.{SettingValue}
-use Rattle.model.specs.declared.SettingValue.the-variants.{Weight, Quota, Bandwidth, Maximum}
-use Rattle.model.proofs.FunctionLaws.{split}
-use Rattle.model.proofs.FigureLaws.{between-le}
-use Rattle.model.proofs.SettingLaws.{range-of-quota, range-of-period}
+use Rattle.model.specs.declared.SettingValue.the-variants.{Weight, Quota, Bandwidth, Device, Maximum}
 use Rattle.text.specs.Line.{soleWord}
-use Rattle.text.specs.Number.{clip, asNumber}
-use Rattle.text.specs.Value.{clipped, asLimitWord, asLineValue}
+use Rattle.text.specs.Number.{asNumber}
+use Rattle.text.specs.Limit.{asLimitWord}
+use Rattle.text.specs.Pair.{clippedPairs, asPairsWord}
+use Rattle.text.specs.Value.{clipped, asLineValue}
 use Rattle.text.specs.declared.number.Number.{Number}
-use Rattle.text.specs.declared.value.LimitWord.{LimitWord}
+use Rattle.text.specs.declared.limit.LimitWord.{LimitWord}
+use Rattle.text.specs.declared.pair.PairsWord.{PairsWord}
 use Rattle.text.specs.declared.value.LineValue.{LineValue}
 use Rattle.text.proofs.NumberLaws.{sole-read}
-
--- ---- a range
-
-module _ (low high n : ℕ) where
-  pub below-range : n < low → false ≡ between low high n
-  below-range h = rw (lt-leb low n h)
-
-  pub above-low : low ≤ n → leb n high ≡ between low high n
-  above-low h = rw (le-leb low n h)
-
-  above-range : high < n → between low high n ≡ false
-  above-range h = rw (lt-leb n high h) (go (leb low n))
-    where
-      go : (t : Bool) → t && false ≡ false
-      go true = refl
-      go false = refl
-
-module _ (q : Limit) (p : ℕ) where
-  pub quota-out : quotaIn q ≡ false → false ≡ inRange (Bandwidth q p)
-  unfolding inRange
-  quota-out h = rw h
-
-  pub quota-in : (b : Bool) → quotaIn q ≡ true → b ≡ between 1000 1000000 p → b ≡ inRange (Bandwidth q p)
-  unfolding inRange
-  quota-in b h e = e ∙ rw h
-
--- ---- clipping: it does not change whether a value is in its range, and leaves a value that is
-
-module _ (low high : ℕ) (fits : high < 2 ^ 64 - 1) where
-  between-clip : (n : ℕ) → between low high (clip n) ≡ between low high n
-  between-clip n =
-      split (ltb n (2 ^ 64))
-      (λ y. let e : clip n ≡ n = omega (arith, ltb-true n (2 ^ 64) y) in ap (between low high) e)
-      (λ x. let h = ltb-false n (2 ^ 64) x in above-range low high (clip n) (omega arith) ∙ sym (above-range low high n (omega arith)))
-
-  clip-between : (n : ℕ) → between low high n ≡ true → clip n ≡ n
-  clip-between n h = omega (arith, between-le low high n h)
-
-  figureIn-clip : (l : Limit) → figureIn low high (mapLimit clip l) ≡ figureIn low high l
-  figureIn-clip NoLimit = refl
-  figureIn-clip (Figure n) = between-clip n
-
-  clip-figureIn : (l : Limit) → figureIn low high l ≡ true → mapLimit clip l ≡ l
-  clip-figureIn NoLimit h = refl
-  clip-figureIn (Figure n) h = ap Figure (clip-between n h)
-
-largest-fits : (r : Resource) → largest r < 2 ^ 64 - 1
-largest-fits Pages = omega arith
-largest-fits Processes = omega arith
-
-pub range-of-clipped : (v : SettingValue) → inRange (clipped v) ≡ inRange v
-unfolding inRange
-range-of-clipped (Weight n) = between-clip 1 10000 (omega arith) n
-range-of-clipped (Quota q) = figureIn-clip 1000 1000000000 (omega arith) q
-range-of-clipped (Bandwidth q p) =
-    ap₂ _&&_ (figureIn-clip 1000 1000000000 (omega arith) q) (between-clip 1000 1000000 (omega arith) p)
-range-of-clipped (Maximum r l) = figureIn-clip 0 (largest r) (largest-fits r) l
-
-pub clipped-in-range : (v : SettingValue) → inRange v ≡ true → clipped v ≡ v
-unfolding inRange
-clipped-in-range (Weight n) h = ap Weight (clip-between 1 10000 (omega arith) n h)
-clipped-in-range (Quota q) h = ap Quota (clip-figureIn 1000 1000000000 (omega arith) q h)
-clipped-in-range (Bandwidth q p) h =
-    ap₂ Bandwidth (clip-figureIn 1000 1000000000 (omega arith) q (range-of-quota q p h))
-    (clip-between 1000 1000000 (omega arith) p (range-of-period q p h))
-clipped-in-range (Maximum r l) h = ap (Maximum r) (clip-figureIn 0 (largest r) (largest-fits r) l h)
-
--- ---- a limit
-
-abbrev pub limitOf : Number → LimitWord
-limitOf (Number.Figure n) = LimitWord.Of (Figure n)
-limitOf Number.NotANumber = LimitWord.Malformed
-
-module _ (w : List ℕ) where
-  pub limit-max : sameBytes w (bytes "max") ≡ true → LimitWord.Of NoLimit ≡ asLimitWord (limitWord w)
-  unfolding limitWord
-  limit-max e = rw e
-
-  pub limit-number : sameBytes w (bytes "max") ≡ false → (n : Number) → n ≡ asNumber (numberWord w)
-      → limitOf n ≡ asLimitWord (limitWord w)
-  unfolding limitWord
-  limit-number e n f = ap limitOf f ∙ rw e (go (numberWord w))
-    where
-      go : (o : Option ℕ) → limitOf (asNumber o) ≡ asLimitWord (mapped Figure o)
-      go none = refl
-      go (some m) = refl
+use Rattle.text.proofs.RangeLaws.{range-of-clipped, clipped-in-range}
 
 -- ---- a line, by what its words say
 
@@ -185,6 +97,34 @@ many-words [] h = absurd (omega arith)
 many-words (w ∷ []) h = absurd (omega arith)
 many-words (w ∷ v ∷ []) h = absurd (omega arith)
 many-words (w ∷ v ∷ u ∷ us) h = refl
+
+-- io.max: the device's two numbers, and its pairs
+abbrev pub deviceLine : Number → Number → PairsWord → LineValue
+deviceLine Number.NotANumber n p = LineValue.Malformed
+deviceLine (Number.Figure a) Number.NotANumber p = LineValue.Malformed
+deviceLine (Number.Figure a) (Number.Figure b) PairsWord.Malformed = LineValue.Malformed
+deviceLine (Number.Figure a) (Number.Figure b) (PairsWord.Of p) = LineValue.Of (Device a b p)
+
+module _ (w : List ℕ) (ws : List (List ℕ)) (u v : List ℕ) where
+  pub device-read : (m n : Number) (p : PairsWord) → u ≡ before colon w → m ≡ asNumber (numberWord u)
+      → v ≡ after colon w → n ≡ asNumber (numberWord v) → p ≡ asPairsWord (mapped clippedPairs (pairsFrom noPairs ws))
+      → deviceLine m n p ≡ asLineValue (valueOf IoMax (w ∷ ws))
+  unfolding valueOf
+  device-read m n p d e f g h =
+      let x = e ∙ ap (λ (t : List ℕ). asNumber (numberWord t)) d in
+      let y = g ∙ ap (λ (t : List ℕ). asNumber (numberWord t)) f in
+      (λ i. deviceLine (x i) (y i) (h i)) ∙ go (numberWord (before colon w)) (numberWord (after colon w)) (pairsFrom noPairs ws)
+    where
+      go : (x y : Option ℕ) (z : Option Pairs)
+          → deviceLine (asNumber x) (asNumber y) (asPairsWord (mapped clippedPairs z)) ≡ asLineValue (deviceValue x y z)
+      go none y z = refl
+      go (some a) none z = refl
+      go (some a) (some b) none = refl
+      go (some a) (some b) (some q) = refl
+
+pub no-device : (ws : List (List ℕ)) → ws ≡ [] → LineValue.Malformed ≡ asLineValue (valueOf IoMax ws)
+unfolding valueOf
+no-device ws e = rw e
 
 -- ---- what an answer says of the value
 

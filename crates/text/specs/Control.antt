@@ -6,7 +6,7 @@ use lib.ListN.{length, take, drop}
 use denote.Ref.{RefT, ptr, now}
 use Rattle.model.specs.Text.{leadingWord, starts}
 use Rattle.model.specs.Control.{Ask, keep, enable, disable, asked, firstBad, Part}
-use Rattle.model.specs.declared.Controller.the-variants.{Cpu, Memory, Pids}
+use Rattle.model.specs.declared.Controller.the-variants.{Cpu, Io, Memory, Pids}
 use Rattle.text.specs.Line.{Inside}
 use Rattle.text.specs.declared.line.Span.{Span}
 use Rattle.text.specs.declared.control.Wish.{Wish}
@@ -21,6 +21,7 @@ askOf Disable = disable
 -- r is what the line asks of each controller
 pub record AsksOf (line : List ℕ) (r : Wishes) : Type 0 where
   pub cpu : askOf (r .cpu) ≡ asked line Cpu
+  pub io : askOf (r .io) ≡ asked line Io
   pub memory : askOf (r .memory) ≡ asked line Memory
   pub pids : askOf (r .pids) ≡ asked line Pids
 

@@ -28,6 +28,7 @@ pub enum Wish {
 // What a line asks of each controller.
 pub struct Wishes {
     pub cpu: Wish,
+    pub io: Wish,
     pub memory: Wish,
     pub pids: Wish,
 }
@@ -104,10 +105,12 @@ pub fn asks(line: &[u8]) -> Wishes
 {
     let n = line_end(line);
     let cpu = wish_of(&line[..n], Controller::Cpu);
+    let io = wish_of(&line[..n], Controller::Io);
     let memory = wish_of(&line[..n], Controller::Memory);
     let pids = wish_of(&line[..n], Controller::Pids);
     Wishes {
         cpu: cpu,
+        io: io,
         memory: memory,
         pids: pids,
     }

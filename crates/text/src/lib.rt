@@ -4,6 +4,9 @@ pub mod line; // lines and their words
 pub mod number; // number words
 pub mod name; // the names of controllers, settings and files
 pub mod control; // control lines
+pub mod limit; // limits as words
+pub mod cut; // a word in two parts
+pub mod pair; // the pairs of io.max
 pub mod value; // what a line gives a setting
 pub mod range; // the ranges of values
 pub mod amount; // figures of files and amounts of resources

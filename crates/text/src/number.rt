@@ -1,5 +1,5 @@
 // Number words: "one or more decimal digits, leading zeros allowed, any value". A figure that does not fit 64 bits is kept as
-// the largest that does, which is outside every range of document 01.
+// the largest that does, which is outside every range of document 01 and of order 1.
 ghost use mathlib.Core.Path.{_≡_};
 ghost use Rattle.model.specs.Functions.{known};
 ghost use Rattle.model.specs.Text.{numberWord};

@@ -2,46 +2,34 @@
 // malformed word of a line counts before a figure of it that is out of its range. A figure of any size is well formed.
 ghost use mathlib.Core.List.{[], _∷_};
 ghost use mathlib.Core.Path.{_≡_};
-ghost use Rattle.model.specs.Text.{lineWords};
-ghost use Rattle.model.specs.Settings.{limitWord, valueOf};
-ghost use Rattle.text.specs.Value.{asLimitWord, asLineValue};
+ghost use Rattle.model.specs.Text.{words, lineWords};
+ghost use Rattle.model.specs.Settings.{valueOf};
+ghost use Rattle.text.specs.Value.{asLineValue};
+use super::cut::part_after;
+use super::cut::part_before;
+use super::limit::LimitWord;
+use super::limit::parse_limit;
 use super::line::Words;
-use super::line::is_same;
+use super::line::line_end;
+use super::line::next_word;
 use super::line::sole_word;
 use super::line::split;
 use super::number::Number;
 use super::number::parse_number;
 use super::number::parse_number_line;
-use model::Limit;
+use super::pair::PairsWord;
+use super::pair::parse_pairs;
 use model::Resource;
 use model::Setting;
 use model::SettingValue;
 
-// What a word says as a limit.
-pub enum LimitWord {
-    Of(Limit),
-    Malformed,
-}
+const COLON: u8 = 58;
 
 // What a line gives a setting.
 pub enum LineValue {
     Of(SettingValue),
-    // 22 not as many words as the setting takes, or a word of another form
+    // 22 not as many words as the setting takes, a word of another form, or a key given twice
     Malformed,
-}
-
-// "max", or a number word.
-fn parse_limit(word: &[u8]) -> LimitWord
-    ensures { λ r. ⌜ r ≡ asLimitWord (limitWord (now (word .entry))) ⌝ }
-{
-    if is_same(word, b"max") {
-        return LimitWord::Of(Limit::NoLimit);
-    }
-    let number = parse_number(word);
-    let Number::Figure(n) = number else {
-        return LimitWord::Malformed;
-    };
-    LimitWord::Of(Limit::Figure(n))
 }
 
 fn parse_weight(line: &[u8]) -> LineValue
@@ -101,6 +89,38 @@ fn parse_bandwidth(line: &[u8]) -> LineValue
     }
 }
 
+fn parse_device_and_pairs(device: &[u8], rest: &[u8]) -> LineValue
+    ensures { λ r. ⌜ r ≡ asLineValue (valueOf Setting.IoMax (now (device .entry) ∷ words (now (rest .entry)))) ⌝ }
+{
+    let major = parse_number(part_before(device, COLON));
+    let Number::Figure(a) = major else {
+        return LineValue::Malformed;
+    };
+    let minor = parse_number(part_after(device, COLON));
+    let Number::Figure(b) = minor else {
+        return LineValue::Malformed;
+    };
+    let pairs = parse_pairs(rest);
+    let PairsWord::Of(p) = pairs else {
+        return LineValue::Malformed;
+    };
+    LineValue::Of(SettingValue::Device(a, b, p))
+}
+
+// io.max: a device, major:minor, then any pairs.
+fn parse_device(line: &[u8]) -> LineValue
+    ensures { λ r. ⌜ r ≡ asLineValue (valueOf Setting.IoMax (lineWords (now (line .entry)))) ⌝ }
+{
+    let n = line_end(line);
+    let word = next_word(&line[..n], 0);
+    let s = word.start;
+    let e = word.end;
+    if s == n {
+        return LineValue::Malformed;
+    }
+    parse_device_and_pairs(&line[s..e], &line[e..n])
+}
+
 fn parse_maximum(resource: Resource, line: &[u8]) -> LineValue
     ensures { λ r. ⌜ r ≡ asLineValue (valueOf (Setting.Max resource) (lineWords (now (line .entry)))) ⌝ }
 {
@@ -118,6 +138,7 @@ pub fn parse_value(setting: Setting, line: &[u8]) -> LineValue
     match setting {
         Setting::CpuWeight => parse_weight(line),
         Setting::CpuMax => parse_bandwidth(line),
+        Setting::IoMax => parse_device(line),
         Setting::Max(resource) => parse_maximum(resource, line),
     }
 }

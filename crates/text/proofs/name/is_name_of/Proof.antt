@@ -39,6 +39,15 @@ slice-aggregate-is-same-3 c = search needs
 is-same-requires-3 : tie.Need-is-same-requires-3
 is-same-requires-3 c κs = search needs
 
+enum-told-4 : tie.Need-enum-told-4
+enum-told-4 c = search needs
+
+slice-aggregate-is-same-4 : tie.Need-slice-aggregate-is-same-4
+slice-aggregate-is-same-4 c = search needs
+
+is-same-requires-4 : tie.Need-is-same-requires-4
+is-same-requires-4 c κs = search needs
+
 returns : tie.Need-returns
 returns c =
     let m = c .before .before in
@@ -54,6 +63,11 @@ returns-3 c =
     let m = c .before .before in
     c .is-same3 .ensures ∙ ap (same-as (m .before .before .before)) (sym (m .enum-told3 .given .1))
 
+returns-4 : tie.Need-returns-4
+returns-4 c =
+    let m = c .before .before in
+    c .is-same4 .ensures ∙ ap (same-as (m .before .before .before)) (sym (m .enum-told4 .given .1))
+
 pub is-name-of-spec : {M : Type 1} → statement M
 is-name-of-spec =
     tie.close
@@ -67,6 +81,10 @@ is-name-of-spec =
     enum-told-3
     slice-aggregate-is-same-3
     is-same-requires-3
+    enum-told-4
+    slice-aggregate-is-same-4
+    is-same-requires-4
     returns
     returns-2
-    returns-3)
+    returns-3
+    returns-4)

@@ -17,5 +17,8 @@ returns-3 c = let e : c .before .args .i ≡ 2 = omega arith in rw e
 returns-4 : tie.Need-returns-4
 returns-4 c = let e : c .before .args .i ≡ 3 = omega arith in rw e
 
+returns-5 : tie.Need-returns-5
+returns-5 c = let e : c .before .args .i ≡ 4 = omega arith in rw e
+
 pub setting-at-spec : {M : Type 1} → statement M
-setting-at-spec = tie.close (tie.spec returns returns-2 returns-3 returns-4)
+setting-at-spec = tie.close (tie.spec returns returns-2 returns-3 returns-4 returns-5)

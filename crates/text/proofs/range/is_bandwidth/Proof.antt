@@ -2,7 +2,8 @@
 use mathlib.Core.Path.{sym, _∙_}
 use borrow.Author.Tests.{not-true, not-false}
 use borrow.Author.Needs.{needs}
-use Rattle.text.proofs.ValueLaws.{quota-out, quota-in}
+use Rattle.model.specs.Settings.{inRange}
+use Rattle.text.proofs.RangeLaws.{test-fails, test-passes}
 use Rattle.text.proofs.range.is_bandwidth.Statement.{statement}
 use Rattle.text.proofs.range.is_bandwidth.Tie as tie
 
@@ -10,19 +11,17 @@ is-figure-in-requires : tie.Need-is-figure-in-requires
 is-figure-in-requires c κs = search needs
 
 returns : tie.Need-returns
-returns c =
-    let f = c .before in
-    let a = f .before .args in
-    quota-out (a .quota) (a .period) (sym (f .is-figure-in .ensures) ∙ not-true _ (c .if1 .taken))
+unfolding inRange
+returns c = test-fails _ _ (sym (c .before .is-figure-in .ensures) ∙ not-true _ (c .if1 .taken))
 
 is-between-requires : tie.Need-is-between-requires
 is-between-requires c κs = search needs
 
 returns-2 : tie.Need-returns-2
+unfolding inRange
 returns-2 c =
-    let f = c .before .before in
-    let a = f .before .args in
-    quota-in (a .quota) (a .period) _ (sym (f .is-figure-in .ensures) ∙ not-false _ (c .before .if1 .left)) (c .is-between .ensures)
+    let e = c .before in
+    test-passes _ _ _ (sym (e .before .is-figure-in .ensures) ∙ not-false _ (e .if1 .left)) (c .is-between .ensures)
 
 pub is-bandwidth-spec : {M : Type 1} → statement M
 is-bandwidth-spec =

@@ -1,5 +1,5 @@
 -- `text::range::is_between` meets its contract: the two tests are those of `between`. Assumes nothing.
-use Rattle.text.proofs.ValueLaws.{below-range, above-low}
+use Rattle.text.proofs.RangeLaws.{below-range, above-low}
 use Rattle.text.proofs.range.is_between.Statement.{statement}
 use Rattle.text.proofs.range.is_between.Tie as tie
 

@@ -27,6 +27,12 @@ is-bandwidth-requires c κs = search needs
 enum-known-value-4 : tie.Need-enum-known-value-4
 enum-known-value-4 c = search needs
 
+is-device-in-requires : tie.Need-is-device-in-requires
+is-device-in-requires c κs = search needs
+
+enum-known-value-5 : tie.Need-enum-known-value-5
+enum-known-value-5 c = search needs
+
 largest-of-requires : tie.Need-largest-of-requires
 largest-of-requires c κs = search needs
 
@@ -45,13 +51,16 @@ returns-3 : tie.Need-returns-3
 returns-3 c = let m = c .before .before in c .is-bandwidth .ensures ∙ ap inRange (sym (m .value3 .given .1))
 
 returns-4 : tie.Need-returns-4
+returns-4 c = let m = c .before .before in c .is-device-in .ensures ∙ ap inRange (sym (m .value4 .given .1))
+
+returns-5 : tie.Need-returns-5
 unfolding inRange
-returns-4 c =
+returns-5 c =
     let l = c .before in
     let m = l .before .before in
     c .is-figure-in2 .ensures
-    ∙ ap (λ (h : ℕ). figureIn 0 h (m .value4 .given .0 .1 .0)) (l .largest-of .ensures)
-    ∙ ap inRange (sym (m .value4 .given .1))
+    ∙ ap (λ (h : ℕ). figureIn 0 h (m .value5 .given .0 .1 .0)) (l .largest-of .ensures)
+    ∙ ap inRange (sym (m .value5 .given .1))
 
 pub is-in-range-spec : {M : Type 1} → statement M
 is-in-range-spec =
@@ -64,9 +73,12 @@ is-in-range-spec =
     enum-known-value-3
     is-bandwidth-requires
     enum-known-value-4
+    is-device-in-requires
+    enum-known-value-5
     largest-of-requires
     is-figure-in-requires-2
     returns
     returns-2
     returns-3
-    returns-4)
+    returns-4
+    returns-5)

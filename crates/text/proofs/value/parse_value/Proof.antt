@@ -25,6 +25,12 @@ enum-told-2 c = search needs
 parse-bandwidth-requires : tie.Need-parse-bandwidth-requires
 parse-bandwidth-requires c κs = search needs
 
+enum-told-3 : tie.Need-enum-told-3
+enum-told-3 c = search needs
+
+parse-device-requires : tie.Need-parse-device-requires
+parse-device-requires c κs = search needs
+
 enum-known-setting : tie.Need-enum-known-setting
 enum-known-setting c = search needs
 
@@ -43,6 +49,11 @@ returns-2 c =
 
 returns-3 : tie.Need-returns-3
 returns-3 c =
+    let m = c .before in
+    c .parse-device .ensures ∙ ap (reads-as (m .before .before .before)) (sym (m .enum-told3 .given .1))
+
+returns-4 : tie.Need-returns-4
+returns-4 c =
     let m = c .before .before in
     c .parse-maximum .ensures ∙ ap (reads-as (m .before .before .before)) (sym (m .setting .given .1))
 
@@ -54,8 +65,11 @@ parse-value-spec =
     parse-weight-requires
     enum-told-2
     parse-bandwidth-requires
+    enum-told-3
+    parse-device-requires
     enum-known-setting
     parse-maximum-requires
     returns
     returns-2
-    returns-3)
+    returns-3
+    returns-4)

@@ -1,9 +1,9 @@
--- `text::value::parse_limit` meets its contract: a limit is "max" or a number. Assumes nothing.
+-- `text::limit::parse_limit` meets its contract: a limit is "max" or a number. Assumes nothing.
 use mathlib.Core.Path.{sym, _∙_}
 use borrow.Author.Needs.{needs}
-use Rattle.text.proofs.ValueLaws.{limit-max, limit-number}
-use Rattle.text.proofs.value.parse_limit.Statement.{statement}
-use Rattle.text.proofs.value.parse_limit.Tie as tie
+use Rattle.text.proofs.LimitLaws.{limit-max, limit-number}
+use Rattle.text.proofs.limit.parse_limit.Statement.{statement}
+use Rattle.text.proofs.limit.parse_limit.Tie as tie
 
 slice-aggregate-is-same : tie.Need-slice-aggregate-is-same
 slice-aggregate-is-same c = search needs
