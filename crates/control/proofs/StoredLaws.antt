@@ -1,26 +1,28 @@
 -- The stores of the two calls leave what the definitions say: neither changes what is counted. Assumes nothing.
 use Prim.Native.Nat.{ℕ, _<_}
-use mathlib.Core.Bool.{true}
+use mathlib.Core.Bool.{Bool, true, false}
 use mathlib.Core.List.{List, [], _∷_}
 use mathlib.Core.Option.{Option, some}
-use mathlib.Core.Path.{_≡_, refl, ap, ap₂, sym, _∙_}
+use mathlib.Core.Path.{_≡_, refl, ap, ap₂, sym, _∙_, subst}
 use borrow.Author.Tests.{lt-leb}
 use Rattle.model.specs.Sizes.{groups}
-use Rattle.model.specs.Tree.{Tree, Controls, lives, parents}
+use Rattle.model.specs.Tree.{Tree, Controls, lives, parents, settingsAt}
 use Rattle.model.specs.Rules.{mayWrite, leaving}
 use Rattle.model.specs.Checks.{Check, bar, need, first, Pass}
 use Rattle.model.specs.Functions.{known, passes}
 use Rattle.model.specs.Hierarchy.{on}
 use Rattle.model.specs.Text.{tooLong, lineWords}
 use Rattle.model.specs.Names.{settingNamed}
-use Rattle.model.specs.Settings.{settingController, valueOf, inRange}
-use Rattle.model.specs.Calls.{writeControl, writeSetting, settingValue, lineValue, checks, verdict}
+use Rattle.model.specs.Settings.{settingController, valueOf, inRange, hasRoom}
+use Rattle.model.specs.Calls.{writeControl, writeSetting, settingValue, lineValue, settingChecks, deviceCheck, checks, verdict}
 use Rattle.model.specs.Effects.{newSet, controlled, written, effect}
 use Rattle.model.specs.declared.Setting.{Setting}
 use Rattle.model.specs.declared.SettingValue.{SettingValue}
-use Rattle.model.specs.declared.Errno.the-variants.{Einval, Erange}
+use Rattle.model.specs.declared.Errno.{Errno}
+use Rattle.model.specs.declared.Errno.the-variants.{Einval, Enospc, Erange}
 use Rattle.model.specs.declared.Answer.{Answer}
-use Rattle.model.specs.declared.Answer.the-variants.{Done}
+use Rattle.model.specs.declared.Answer.the-variants.{Done, Refused}
+use Rattle.model.proofs.CheckLaws.{first-pass, andThen, first-append}
 use Rattle.model.proofs.Steps.{passed}
 use Rattle.model.proofs.ControlPreservation.{part-kept}
 use Rattle.model.proofs.SettingPreservation.{part-after-setting}
@@ -30,9 +32,9 @@ use Rattle.tree.specs.Counters.{HasParent}
 use Rattle.tree.specs.Kept.{Kept}
 use Rattle.tree.specs.Calling.{Calling}
 use Rattle.tree.proofs.KeptLaws.{live-row}
-use Rattle.tree.proofs.CallLaws.{call-done, applied-wrote}
+use Rattle.tree.proofs.CallLaws.{call-refused, call-done, applied-wrote}
 use Rattle.control.specs.Stores.{changedAt}
-use Rattle.control.specs.Values.{Settable, valueChecks, Gives}
+use Rattle.control.specs.Values.{Settable, Stored, valueChecks, Gives}
 use Rattle.control.specs.declared.setting.Given.{Given}
 use Rattle.control.proofs.WroteLaws.{wrote-as}
 
@@ -47,46 +49,72 @@ gives-as e f (Given.Refused x) g = g ∙ e
 pub gives-setting : (t : Tree) (user g : ℕ) (file line : List ℕ) (s : Setting) → settingNamed file ≡ some s → g < groups → lives t g ≡ true
     → passes (settingNamed file) (λ x. on t (settingController x) g) ≡ true → mayWrite t user (parents t g) ≡ true
     → (r : Given) → Gives (first (valueChecks s line)) (valueOf s (lineWords line)) r
-    → Gives (verdict t (writeSetting user g file line)) (lineValue file line) r
-unfolding verdict checks valueChecks first
+    → Gives (first (settingChecks t user g file line)) (lineValue file line) r
+unfolding settingChecks valueChecks first
 gives-setting t user g file line s e n l o m r h =
     let v : settingValue (some s) line ≡ lineValue file line = ap (λ x. settingValue x line) (sym e) in
-    let left : verdict t (writeSetting user g file line) ≡ first (checksOf (lineValue file line)) = rw (lt-leb groups g n, l, ap known e, o, m) in
+    let left : first (settingChecks t user g file line) ≡ first (checksOf (lineValue file line)) = rw (lt-leb groups g n, l, ap known e, o, m) in
     gives-as (ap (λ x. first (checksOf x)) v ∙ sym left) v r h
   where
     -- the checks of a line by its value
     checksOf : Option SettingValue → List Check
     checksOf x = bar (tooLong line) Einval ∷ need (known x) Einval ∷ need (passes x inRange) Erange ∷ []
 
+-- the check for a device too many comes last
+module _ (t : Tree) (user g : ℕ) (file line : List ℕ) where
+  verdict-in-two : verdict t (writeSetting user g file line) ≡ andThen (first (settingChecks t user g file line)) (first (deviceCheck t g file line))
+  unfolding verdict checks
+  verdict-in-two = first-append (settingChecks t user g file line) (deviceCheck t g file line)
+
+  pub verdict-before : (e : Errno) → Refused e ≡ first (settingChecks t user g file line) → Refused e ≡ verdict t (writeSetting user g file line)
+  verdict-before e h = sym (verdict-in-two ∙ ap (λ a. andThen a (first (deviceCheck t g file line))) (sym h))
+
+  verdict-last : (v : SettingValue) → Done ≡ first (settingChecks t user g file line) → lineValue file line ≡ some v
+      → verdict t (writeSetting user g file line) ≡ first (need (hasRoom (settingsAt t g) v) Enospc ∷ [])
+  verdict-last v h e =
+      verdict-in-two
+      ∙ ap (λ a. andThen a (first (deviceCheck t g file line))) (sym h)
+      ∙ ap (λ o. first (need (passes o (hasRoom (settingsAt t g))) Enospc ∷ [])) e
+
 module _ (xs : List ℕ) (k : Kept xs) (user g : ℕ) (file line : List ℕ) (value : SettingValue)
-    (given : Gives (verdict (view xs) (writeSetting user g file line)) (lineValue file line) (Given.Value value)) where
+    (given : Gives (first (settingChecks (view xs) user g file line)) (lineValue file line) (Given.Value value)) where
   setting-live : lives (view xs) g ≡ true
-  unfolding checks Pass
-  setting-live = let c = passed (view xs) (writeSetting user g file line) (sym (given .0)) in (search)
+  unfolding settingChecks Pass
+  setting-live = let c = first-pass (settingChecks (view xs) user g file line) (sym (given .0)) in (search)
 
   setting-range : passes (lineValue file line) inRange ≡ true
-  unfolding checks Pass
-  setting-range = let c = passed (view xs) (writeSetting user g file line) (sym (given .0)) in (search)
+  unfolding settingChecks Pass
+  setting-range = let c = first-pass (settingChecks (view xs) user g file line) (sym (given .0)) in (search)
 
   pub settable : Settable xs g value
   settable =
       record { at = record { kept = k; live = setting-live }; within = ap (λ o. passes o inRange) (sym (given .1)) ∙ setting-range }
 
-  pub setting-done : (ys : List ℕ) → Wrote xs ys (changedAt (view xs) g (written (some value)))
-      → Calling xs ys (writeSetting user g file line) (verdict (view xs) (writeSetting user g file line)) Done
-  unfolding effect
-  setting-done ys w =
-      let o = lineValue file line in
-      call-done xs k (writeSetting user g file line) (sym (given .0)) ys _ _
-      (applied-wrote xs k (writeSetting user g file line) (sym (given .0)) ys
-      (wrote-as (ap (λ x. changedAt (view xs) g (written x)) (sym (given .1))) w)
-      (record {
-        parent = part-after-setting (view xs) g o (λ x. x .core .parent) (λ _ _. refl);
-        live = part-after-setting (view xs) g o (λ x. x .core .live) (λ _ _. refl);
-        own = part-after-setting (view xs) g o (λ x. x .core .own) (λ _ _. refl);
-      })
-      refl)
-      (given .0)
+  module _ (ys : List ℕ) (r : Bool) (stored : Stored xs ys g value r) where
+    pub setting-full : r ≡ false → Calling xs ys (writeSetting user g file line) (verdict (view xs) (writeSetting user g file line)) (Refused Enospc)
+    unfolding first
+    setting-full n =
+        let v : verdict (view xs) (writeSetting user g file line) ≡ Refused Enospc =
+        verdict-last (view xs) user g file line value (given .0) (given .1) ∙ rw (sym (stored .room) ∙ n) in
+        subst (λ (zs : List ℕ). Calling xs zs (writeSetting user g file line) (verdict (view xs) (writeSetting user g file line)) (Refused Enospc))
+        (sym (stored .same n)) (call-refused xs k (writeSetting user g file line) _ _ _ v (sym v))
+
+    pub setting-done : r ≡ true → Calling xs ys (writeSetting user g file line) (verdict (view xs) (writeSetting user g file line)) Done
+    unfolding effect first
+    setting-done y =
+        let o = lineValue file line in
+        let v : verdict (view xs) (writeSetting user g file line) ≡ Done =
+        verdict-last (view xs) user g file line value (given .0) (given .1) ∙ rw (sym (stored .room) ∙ y) in
+        call-done xs k (writeSetting user g file line) v ys _ _
+        (applied-wrote xs k (writeSetting user g file line) v ys
+        (wrote-as (ap (λ x. changedAt (view xs) g (written x)) (sym (given .1))) (stored .done y))
+        (record {
+          parent = part-after-setting (view xs) g o (λ x. x .core .parent) (λ _ _. refl);
+          live = part-after-setting (view xs) g o (λ x. x .core .live) (λ _ _. refl);
+          own = part-after-setting (view xs) g o (λ x. x .core .own) (λ _ _. refl);
+        })
+        refl)
+        (sym v)
 
 -- ---- a control line
 

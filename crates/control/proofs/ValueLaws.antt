@@ -6,7 +6,7 @@ use mathlib.Core.List.{List}
 use mathlib.Core.Option.{some}
 use mathlib.Core.Path.{_≡_, refl}
 use Rattle.model.specs.Functions.{All}
-use Rattle.model.specs.Tree.{Group, CpuSettings, withLimit, withSettings}
+use Rattle.model.specs.Tree.{Group, CpuSettings, withCpu, withAmounts, withLimit, withSettings, settingsOf}
 use Rattle.model.specs.Settings.{figureIn, quotaIn, largest, inRange, toAmount, mapLimit, assign, shown}
 use Rattle.model.specs.Effects.{written}
 use Rattle.model.specs.declared.Resource.{Resource}
@@ -65,7 +65,7 @@ module _ (xs : List ℕ) (g : ℕ) (value : SettingValue) (k : Settable xs g val
 
 -- cpu.weight and cpu.max
 abbrev cpu-assigned : Group → ℕ → Limit → ℕ → Group
-cpu-assigned v n q p = withSettings (record { limit = v .core .limit; cpu = record { weight = n; quota = q; period = p } }) v
+cpu-assigned v n q p = withSettings (withCpu (record { weight = n; quota = q; period = p }) (settingsOf v)) v
 
 module _ (v : Group) (value : SettingValue) where
   pub weight-written : (n : ℕ) (q : Limit) (p : ℕ) → value ≡ Weight n → q ≡ v .cpu .quota → p ≡ v .cpu .period
@@ -84,6 +84,6 @@ module _ (v : Group) (value : SettingValue) where
   bandwidth-written n q p e f = rw (e, f)
 
   pub limit-written : (r : Resource) (l m : Limit) → value ≡ Maximum r l → m ≡ mapLimit (toAmount r) l
-      → withSettings (record { limit = withLimit r m (v .core .limit); cpu = v .cpu }) v ≡ written (some value) v
+      → withSettings (withAmounts (withLimit r m (v .core .limit)) (settingsOf v)) v ≡ written (some value) v
   unfolding assign
   limit-written r l m e f = rw (e, f)

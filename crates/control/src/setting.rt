@@ -1,21 +1,19 @@
-// Writes to a setting: cpu.weight, cpu.max, memory.max, pids.max. Its file belongs to the group's parent.
-ghost use mathlib.Core.Option.{some};
+// Writes to a setting: cpu.weight, cpu.max, io.max, memory.max, pids.max. Its file belongs to the group's parent.
 ghost use Rattle.model.specs.Text.{lineWords};
 ghost use Rattle.model.specs.Settings.{valueOf};
 ghost use Rattle.model.specs.Checks.{first};
 ghost use Rattle.model.specs.Calls.{writeSetting};
-ghost use Rattle.model.specs.Effects.{written};
-ghost use Rattle.tree.specs.Layout.{view};
-ghost use Rattle.tree.specs.Changes.{Wrote};
 ghost use Rattle.tree.specs.Kept.{Kept};
 ghost use Rattle.tree.specs.Calling.{Called};
-ghost use Rattle.control.specs.Stores.{changedAt};
-ghost use Rattle.control.specs.Values.{Settable, valueChecks, Gives, Vetted};
+ghost use Rattle.control.specs.Values.{Settable, Stored, valueChecks, Gives, Vetted};
+use devices::table::after_line;
 use model::Answer;
 use model::Errno;
 use model::GroupId;
+use model::Pairs;
 use model::Setting;
 use model::SettingValue;
+use text::amount::device_of;
 use text::amount::stored_limit;
 use text::line::is_too_long;
 use text::name::SettingName;
@@ -23,6 +21,8 @@ use text::name::setting_named;
 use text::range::is_in_range;
 use text::value::LineValue;
 use text::value::parse_value;
+use tree::device::set_slots;
+use tree::device::slots;
 use tree::group::is_live;
 use tree::group::parent;
 use tree::layout::GROUPS;
@@ -87,20 +87,48 @@ fn vet_setting(tree: &Tree, user: u32, group: GroupId, file: &[u8], line: &[u8])
     vet_value(setting, line)
 }
 
-// The value in the group. One word of cpu.max leaves the period.
-fn store(t: &mut Tree, g: GroupId, value: SettingValue)
+// A line for a device in the group, unless it were a device too many.
+fn store_device(t: &mut Tree, g: GroupId, major: u64, minor: u64, pairs: Pairs) -> bool
+    requires { ⌜ Settable (now t) (g .0) (SettingValue.Device major minor pairs) ⌝ }
+    ensures { λ r. ⌜ Stored (now (t .entry)) (now (t .exit)) (g .0) (SettingValue.Device major minor pairs) r ⌝ }
+{
+    let after = after_line(slots(t, g), device_of(major, minor), pairs);
+    let out = after.out;
+    let left = after.slots;
+    if out.device != 0 {
+        return false;
+    }
+    set_slots(t, g, left);
+    true
+}
+
+// The value in the group, unless it were a device too many. One word of cpu.max leaves the period.
+fn store(t: &mut Tree, g: GroupId, value: SettingValue) -> bool
     requires { ⌜ Settable (now t) (g .0) value ⌝ }
-    ensures { λ _. ⌜ Wrote (now (t .entry)) (now (t .exit)) (changedAt (view (now (t .entry))) (g .0) (written (some value))) ⌝ }
+    ensures { λ r. ⌜ Stored (now (t .entry)) (now (t .exit)) (g .0) value r ⌝ }
 {
     match value {
-        SettingValue::Weight(n) => set_cpu(t, g, n, quota(t, g), period(t, g)),
-        SettingValue::Quota(q) => set_cpu(t, g, weight(t, g), q, period(t, g)),
-        SettingValue::Bandwidth(q, p) => set_cpu(t, g, weight(t, g), q, p),
-        SettingValue::Maximum(r, l) => set_limit(t, g, r, stored_limit(r, l)),
+        SettingValue::Weight(n) => {
+            set_cpu(t, g, n, quota(t, g), period(t, g));
+            true
+        }
+        SettingValue::Quota(q) => {
+            set_cpu(t, g, weight(t, g), q, period(t, g));
+            true
+        }
+        SettingValue::Bandwidth(q, p) => {
+            set_cpu(t, g, weight(t, g), q, p);
+            true
+        }
+        SettingValue::Device(major, minor, pairs) => store_device(t, g, major, minor, pairs),
+        SettingValue::Maximum(r, l) => {
+            set_limit(t, g, r, stored_limit(r, l));
+            true
+        }
     }
 }
 
-// "A limit below present usage is accepted."
+// What the checks before the last refuse; then 28, a device too many. "A limit below present usage is accepted."
 pub fn write_setting(tree: &mut Tree, user: u32, group: GroupId, file: &[u8], line: &[u8]) -> Answer
     requires { ⌜ Kept (now tree) ⌝ }
     ensures { λ r. ⌜ Called (now (tree .entry)) (now (tree .exit))
@@ -110,7 +138,9 @@ pub fn write_setting(tree: &mut Tree, user: u32, group: GroupId, file: &[u8], li
     match given {
         Given::Refused(errno) => Answer::Refused(errno),
         Given::Value(value) => {
-            store(tree, group, value);
+            if !store(tree, group, value) {
+                return Answer::Refused(Errno::Enospc);
+            }
             Answer::Done
         }
     }

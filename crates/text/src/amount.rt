@@ -1,9 +1,13 @@
 // Figures of a resource's files and amounts of the resource, both ways: memory.max and memory.current are in bytes and
-// the tree counts pages; pids.max and pids.current count processes as the tree does.
+// the tree counts pages; pids.max and pids.current count processes as the tree does. A device is two numbers in io.max and one in
+// the tree.
 ghost use Prim.Native.Nat.{_^_, _<_, _≤_};
 ghost use mathlib.Core.Bool.{true};
 ghost use mathlib.Core.Path.{_≡_};
+ghost use Rattle.model.specs.Sizes.{deviceNumbers};
+ghost use Rattle.model.specs.Devices.{deviceOf, majorOf, minorOf};
 ghost use Rattle.model.specs.Settings.{figureIn, largest, toPages, toAmount, toFigure, mapLimit};
+use super::range::DEVICE_NUMBERS;
 use model::Limit;
 use model::Resource;
 
@@ -59,4 +63,24 @@ pub fn shown_limit(r: Resource, l: Limit) -> Limit
         return Limit::NoLimit;
     };
     Limit::Figure(to_figure(r, n))
+}
+
+// A device by its major and minor number.
+pub fn device_of(major: u64, minor: u64) -> u64
+    requires { ⌜ (major < deviceNumbers) × (minor < deviceNumbers) ⌝ }
+    ensures { λ r. ⌜ r ≡ deviceOf major minor ⌝ }
+{
+    major * DEVICE_NUMBERS + minor
+}
+
+pub fn major_of(device: u64) -> u64
+    ensures { λ r. ⌜ r ≡ majorOf device ⌝ }
+{
+    device / DEVICE_NUMBERS
+}
+
+pub fn minor_of(device: u64) -> u64
+    ensures { λ r. ⌜ r ≡ minorOf device ⌝ }
+{
+    device % DEVICE_NUMBERS
 }

@@ -9,5 +9,5 @@ pub mod cut; // a word in two parts
 pub mod pair; // the pairs of io.max
 pub mod value; // what a line gives a setting
 pub mod range; // the ranges of values
-pub mod amount; // figures of files and amounts of resources
+pub mod amount; // figures of files, amounts of resources, devices
 pub mod write; // decimal text, and its delivery

@@ -25,7 +25,7 @@ const LARGEST_BYTES: u64 = 4503599627370496;
 const LARGEST_PROCESSES: u64 = 4194304;
 
 // both numbers of a device are below this
-const DEVICE_NUMBERS: u64 = 256;
+pub const DEVICE_NUMBERS: u64 = 256;
 
 const LEAST_RATE: u64 = 1;
 
