@@ -3,4 +3,5 @@ pub mod VetLaws
 pub mod WroteLaws
 pub mod ResetLaws
 pub mod ValueLaws
+pub mod DeviceLaws
 pub mod StoredLaws

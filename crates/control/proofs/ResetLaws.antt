@@ -5,11 +5,11 @@ use native.Mathlib.Omega.{arith}
 use mathlib.Core.Bool.{Bool, true, false}
 use mathlib.Core.List.{List, []}
 use mathlib.Core.Logic.{_≢_}
-use mathlib.Core.Path.{_≡_, refl, ap, sym, _∙_, fun-ext}
+use mathlib.Core.Path.{_≡_, refl, ap, sym, _∙_, fun-ext, subst}
 use lib.Dec.{ltb}
 use lib.ListN.{length}
 use borrow.Author.Tests.{ltb-true, ltb-false, lt-ltb, le-ltb}
-use Rattle.model.specs.Functions.{upd, pick}
+use Rattle.model.specs.Functions.{upd, pick, All}
 use Rattle.model.specs.Sizes.{groups}
 use Rattle.model.specs.Tree.{Tree, Core, Group, Controls, defaultCpu, withCpu, withIo, withAmounts, withLimit, withSet, withSettings, settingsOf, cores, lives}
 use Rattle.model.specs.Devices.{DeviceLimits}
@@ -21,9 +21,13 @@ use Rattle.model.specs.declared.Resource.the-variants.{Pages, Processes}
 use Rattle.model.specs.declared.Limit.the-variants.{NoLimit}
 use Rattle.model.proofs.FunctionLaws.{split, whether, upd-same, upd-other, upd-keeps}
 use Rattle.model.proofs.ControlPreservation.{child-live, reset-child, reset-other}
+use Rattle.devices.specs.Slots.{tableOf, Packed, rows, noSlots}
+use Rattle.devices.specs.declared.table.Slots.{Slots}
+use Rattle.devices.proofs.SlotLaws.{packed-none}
 use Rattle.tree.specs.Layout.{treeWords, view}
-use Rattle.tree.specs.Changes.{Wrote, controlsSet}
+use Rattle.tree.specs.Changes.{StorableSlots, Wrote, controlsSet}
 use Rattle.tree.specs.Kept.{Kept}
+use Rattle.tree.proofs.SlotLaws.{RatesIn, storable-slots}
 use Rattle.control.specs.Flags.{flagOf}
 use Rattle.control.specs.Stores.{withGroups, changedAt, cpuReset, ioReset, limitReset, Ranged, childrenReset}
 use Rattle.control.specs.declared.flags.Flags.{Flags}
@@ -56,6 +60,19 @@ module _ (v : Group) (gone : Bool) where
   pub limit-gone : (r : Resource) → gone ≡ true
       → withSettings (withAmounts (withLimit r NoLimit (v .core .limit)) (settingsOf v)) v ≡ limitReset r gone v
   limit-gone r e = rw e
+
+-- no device in a table of four free slots
+module _ (s : Slots) (e : s ≡ noSlots) where
+  pub no-slots-table : tableOf (rows s) ≡ []
+  unfolding tableOf
+  no-slots-table = rw e
+
+  no-slots-packed : Packed (rows s)
+  no-slots-packed = subst (λ (x : Slots). Packed (rows x)) (sym e) packed-none
+
+  pub no-slots-ready : StorableSlots s × Packed (rows s)
+  unfolding All
+  no-slots-ready = (storable-slots s no-slots-packed (subst (All RatesIn) (sym no-slots-table) tt), no-slots-packed)
 
 -- ---- a child
 

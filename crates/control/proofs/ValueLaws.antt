@@ -1,13 +1,15 @@
--- A value: what can be stored of it, and what its stores make of a group. Assumes nothing.
+-- A value: what can be stored of it, what its stores make of a group, and that there is room for all but a device. Assumes nothing.
 use Prim.Native.Nat.{ℕ}
 use native.Mathlib.Omega.{arith}
-use mathlib.Core.Bool.{true}
+use mathlib.Core.Bool.{Bool, true}
 use mathlib.Core.List.{List}
 use mathlib.Core.Option.{some}
-use mathlib.Core.Path.{_≡_, refl}
+use mathlib.Core.Path.{_≡_, refl, sym, subst}
+use borrow.Author.Tests.{le-leb}
 use Rattle.model.specs.Functions.{All}
-use Rattle.model.specs.Tree.{Group, CpuSettings, withCpu, withAmounts, withLimit, withSettings, settingsOf}
-use Rattle.model.specs.Settings.{figureIn, quotaIn, largest, inRange, toAmount, mapLimit, assign, shown}
+use Rattle.model.specs.Sizes.{mostDevices}
+use Rattle.model.specs.Tree.{Group, CpuSettings, Settings, settingsAt, withCpu, withAmounts, withLimit, withSettings, settingsOf}
+use Rattle.model.specs.Settings.{figureIn, quotaIn, largest, inRange, toAmount, mapLimit, assign, hasRoom, shown}
 use Rattle.model.specs.Effects.{written}
 use Rattle.model.specs.declared.Resource.{Resource}
 use Rattle.model.specs.declared.Resource.the-variants.{Pages, Processes}
@@ -16,12 +18,14 @@ use Rattle.model.specs.declared.Limit.the-variants.{NoLimit, Figure}
 use Rattle.model.specs.declared.Setting.the-variants.{CpuMax}
 use Rattle.model.specs.declared.SettingValue.{SettingValue}
 use Rattle.model.specs.declared.SettingValue.the-variants.{Weight, Quota, Bandwidth, Maximum}
+use Rattle.model.proofs.FunctionLaws.{clash}
 use Rattle.model.proofs.FigureLaws.{between-le}
 use Rattle.model.proofs.SettingLaws.{range-of-quota}
 use Rattle.tree.specs.Layout.{view}
-use Rattle.tree.specs.Changes.{GroupRow, Storable}
+use Rattle.tree.specs.Changes.{GroupRow, Storable, Wrote}
 use Rattle.text.proofs.AmountLaws.{figure-low}
-use Rattle.control.specs.Values.{Settable}
+use Rattle.control.specs.Stores.{changedAt}
+use Rattle.control.specs.Values.{Settable, Stored}
 
 -- ---- what can be stored
 
@@ -87,3 +91,41 @@ module _ (v : Group) (value : SettingValue) where
       → withSettings (withAmounts (withLimit r m (v .core .limit)) (settingsOf v)) v ≡ written (some value) v
   unfolding assign
   limit-written r l m e f = rw (e, f)
+
+-- ---- room for a value
+
+module _ (v : SettingValue) (st : Settings) where
+  pub weight-io : (n : ℕ) → v ≡ Weight n → assign v st .io ≡ st .io
+  unfolding assign
+  weight-io n e = rw e
+
+  pub quota-io : (q : Limit) → v ≡ Quota q → assign v st .io ≡ st .io
+  unfolding assign
+  quota-io q e = rw e
+
+  pub bandwidth-io : (q : Limit) (p : ℕ) → v ≡ Bandwidth q p → assign v st .io ≡ st .io
+  unfolding assign
+  bandwidth-io q p e = rw e
+
+  pub limit-io : (r : Resource) (l : Limit) → v ≡ Maximum r l → assign v st .io ≡ st .io
+  unfolding assign
+  limit-io r l e = rw e
+
+module _ (xs : List ℕ) (g : ℕ) (value : SettingValue) (k : Settable xs g value) where
+  -- the value that was matched
+  pub settable-as : {v : SettingValue} → value ≡ v → Settable xs g v
+  settable-as e = subst (Settable xs g) e k
+
+  pub stored-as : {v : SettingValue} → value ≡ v → (ys : List ℕ) (r : Bool) → Stored xs ys g v r → Stored xs ys g value r
+  stored-as e ys r s = subst (λ (v : SettingValue). Stored xs ys g v r) (sym e) s
+
+  -- a value that leaves the devices as they are finds room
+  pub stored-with-room : (ys : List ℕ) → assign value (settingsAt (view xs) g) .io ≡ settingsAt (view xs) g .io
+      → Wrote xs ys (changedAt (view xs) g (written (some value))) → Stored xs ys g value true
+  unfolding hasRoom
+  stored-with-room ys e w =
+      record {
+        room = sym (rw e (le-leb _ mostDevices (k .at .kept .formed .ranges .within g (k .at .live) .table .few)));
+        done = λ _. w;
+        same = λ n. clash true refl n;
+      }

@@ -15,7 +15,7 @@ use Rattle.model.specs.declared.Key.{Key}
 use Rattle.model.specs.declared.Key.the-variants.{Rbps, Wbps, Riops, Wiops}
 use Rattle.model.specs.declared.Pairs.{Pairs}
 use Rattle.model.proofs.FunctionLaws.{split}
-use Rattle.devices.specs.Slots.{unlimited, freeSlot, isFree, limitsOf, lineOf, tableOf, Packed, rows, slotsOf, slotOf, changedSlot, Written, LineWritten}
+use Rattle.devices.specs.Slots.{unlimited, freeSlot, isFree, limitsOf, lineOf, tableOf, Packed, rows, noSlots, slotsOf, slotOf, changedSlot, Written, LineWritten}
 use Rattle.devices.specs.declared.slot.Slot.{Slot}
 use Rattle.devices.specs.declared.table.Slots.{Slots}
 use Rattle.devices.specs.declared.table.Passed.{Passed}
@@ -151,6 +151,15 @@ module _ (d : ℕ) where
       ap (λ (s : Slot). limitsOf s k) (slot-later (d + 1) x xs ne)
       ∙ slot-limits xs (p .1) k
       ∙ sym (table ∙ at-tail x (tableOf xs) k taken ne)))
+
+-- Four free slots are packed.
+pub packed-none : Packed (rows noSlots)
+unfolding Packed All
+packed-none =
+    let one : All (λ x. x ≡ freeSlot) (freeSlot ∷ []) = (refl, tt) in
+    let two : All (λ x. x ≡ freeSlot) (freeSlot ∷ freeSlot ∷ []) = (refl, one) in
+    let three : All (λ x. x ≡ freeSlot) (freeSlot ∷ freeSlot ∷ freeSlot ∷ []) = (refl, two) in
+    ((λ _. (refl, three)), ((λ _. three), ((λ _. two), ((λ _. one), tt))))
 
 -- A free slot at the end says nothing.
 table-front : (xs : List Slot) (e : Slot) → isFree e ≡ true → tableOf (xs ++ (e ∷ [])) ≡ tableOf xs

@@ -1,26 +1,31 @@
+-- `control::reset::reset_io` meets its contract: with no store the group stays as it is. Assumes nothing.
+use mathlib.Core.Path.{sym, subst}
+use borrow.Author.Tests.{not-true, not-false}
 use borrow.Author.Needs.{needs}
+use Rattle.control.proofs.WroteLaws.{wrote-group-as, wrote-none}
+use Rattle.control.proofs.ResetLaws.{io-kept, io-gone, no-slots-ready, no-slots-table}
 use Rattle.control.proofs.reset.reset_io.Statement.{statement}
 use Rattle.control.proofs.reset.reset_io.Tie as tie
-use Rattle.control.proofs.reset.reset_io.Reads as reads
-use Rattle.control.proofs.reset.reset_io.Lts as lts
-use Rattle.devices.proofs.table.empty.Reads as empty-reads
-use Rattle.tree.proofs.device.set_slots.Reads as set-slots-reads
 
--- src/reset.rt:39:9
 returns : tie.Need-returns
-returns c = ?
+returns c =
+    let s = c .before in
+    wrote-none (s .args .t .now) (s .args .k .0) (s .pre .long)
+    (io-kept _ (s .args .gone) (not-true _ (c .if1 .taken)))
 
--- src/reset.rt:41:21
 empty-requires : tie.Need-empty-requires
 empty-requires c κs = search needs
 
--- src/reset.rt:41:5
 set-slots-requires : tie.Need-set-slots-requires
-set-slots-requires c κs = ?
+set-slots-requires c κs = (c .before .before .before .pre, no-slots-ready _ (c .empty .ensures))
 
--- src/reset.rt:34:1
 returns-2 : tie.Need-returns-2
-returns-2 c = ?
+returns-2 c =
+    let n = c .before in
+    let e = n .before .before in
+    let s = e .before in
+    wrote-group-as (s .args .t .now) (s .args .k .0)
+    (io-gone _ (s .args .gone) _ (no-slots-table _ (n .empty .ensures)) (not-false _ (e .if1 .left))) (c .set-slots .ensures)
 
 pub reset-io-spec : {M : Type 1} → statement M
 reset-io-spec = tie.close (tie.spec returns empty-requires set-slots-requires returns-2)

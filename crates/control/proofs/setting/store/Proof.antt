@@ -5,6 +5,7 @@ use Rattle.tree.specs.Changes.{GroupRow}
 use Rattle.tree.specs.Layout.{view}
 use Rattle.control.proofs.ValueLaws.{settable-row, figure-in, storable-kept, storable-quota, storable-bandwidth, storable-amount}
 use Rattle.control.proofs.ValueLaws.{weight-written, quota-written, bandwidth-written, limit-written}
+use Rattle.control.proofs.ValueLaws.{weight-io, quota-io, bandwidth-io, limit-io, settable-as, stored-as, stored-with-room}
 use Rattle.control.proofs.WroteLaws.{wrote-group-as}
 use Rattle.control.proofs.setting.store.Statement.{statement}
 use Rattle.control.proofs.setting.store.Tie as tie
@@ -60,15 +61,21 @@ set-cpu-requires-3 c κs =
 enum-known-value-4 : tie.Need-enum-known-value-4
 enum-known-value-4 c = search needs
 
+enum-known-value-5 : tie.Need-enum-known-value-5
+enum-known-value-5 c = search needs
+
 stored-limit-requires : tie.Need-stored-limit-requires
-stored-limit-requires c κs = let v = c .before .before in figure-in _ _ _ (v .before .before .pre) _ _ (v .value4 .given .1)
+stored-limit-requires c κs = let v = c .before .before in figure-in _ _ _ (v .before .before .pre) _ _ (v .value5 .given .1)
 
 set-limit-requires : tie.Need-set-limit-requires
 set-limit-requires c κs =
     let v = c .before .before .before in
     let s = v .before .before in
-    let m = v .value4 .given in
+    let m = v .value5 .given in
     (row s, storable-amount (m .0 .0) (m .0 .1 .0) _ (c .stored-limit .ensures) (figure-in _ _ _ (s .pre) _ _ (m .1)))
+
+store-device-requires : tie.Need-store-device-requires
+store-device-requires c κs = let v = c .before .before in settable-as _ _ _ (v .before .before .pre) (v .value4 .given .1)
 
 -- cpu.weight
 returns : tie.Need-returns
@@ -77,9 +84,9 @@ returns c =
     let q = p .before .before in
     let v = q .before .before .before .before in
     let s = v .before .before in
-    wrote-group-as _ _
-    (weight-written (group s) _ _ _ _ (v .value .given .1) (q .quota .ensures) (p .period .ensures))
-    (c .set-cpu .ensures)
+    let e = v .value .given .1 in
+    stored-with-room _ _ _ (s .pre) _ (weight-io _ _ _ e)
+    (wrote-group-as _ _ (weight-written (group s) _ _ _ _ e (q .quota .ensures) (p .period .ensures)) (c .set-cpu .ensures))
 
 -- cpu.max, one word
 returns-2 : tie.Need-returns-2
@@ -88,9 +95,9 @@ returns-2 c =
     let w = p .before .before in
     let v = w .before .before .before .before in
     let s = v .before .before in
-    wrote-group-as _ _
-    (quota-written (group s) _ _ _ _ (v .value2 .given .1) (w .weight .ensures) (p .period2 .ensures))
-    (c .set-cpu2 .ensures)
+    let e = v .value2 .given .1 in
+    stored-with-room _ _ _ (s .pre) _ (quota-io _ _ _ e)
+    (wrote-group-as _ _ (quota-written (group s) _ _ _ _ e (w .weight .ensures) (p .period2 .ensures)) (c .set-cpu2 .ensures))
 
 -- cpu.max, two words
 returns-3 : tie.Need-returns-3
@@ -98,19 +105,25 @@ returns-3 c =
     let w = c .before in
     let v = w .before .before .before .before in
     let s = v .before .before in
-    wrote-group-as _ _
-    (bandwidth-written (group s) _ _ _ _ (v .value3 .given .1) (w .weight2 .ensures))
-    (c .set-cpu3 .ensures)
+    let e = v .value3 .given .1 in
+    stored-with-room _ _ _ (s .pre) _ (bandwidth-io _ _ _ _ e)
+    (wrote-group-as _ _ (bandwidth-written (group s) _ _ _ _ e (w .weight2 .ensures)) (c .set-cpu3 .ensures))
 
--- memory.max or pids.max
+-- io.max
 returns-4 : tie.Need-returns-4
 returns-4 c =
+    let v = c .before .before .before in
+    stored-as _ _ _ (v .before .before .pre) (v .value4 .given .1) _ _ (c .store-device .ensures)
+
+-- memory.max or pids.max
+returns-5 : tie.Need-returns-5
+returns-5 c =
     let l = c .before in
     let v = l .before .before .before in
     let s = v .before .before in
-    wrote-group-as _ _
-    (limit-written (group s) _ _ _ _ (v .value4 .given .1) (l .stored-limit .ensures))
-    (c .set-limit .ensures)
+    let e = v .value5 .given .1 in
+    stored-with-room _ _ _ (s .pre) _ (limit-io _ _ _ _ e)
+    (wrote-group-as _ _ (limit-written (group s) _ _ _ _ e (l .stored-limit .ensures)) (c .set-limit .ensures))
 
 pub store-spec : {M : Type 1} → statement M
 store-spec =
@@ -128,9 +141,12 @@ store-spec =
     weight-requires-2
     set-cpu-requires-3
     enum-known-value-4
+    store-device-requires
+    enum-known-value-5
     stored-limit-requires
     set-limit-requires
     returns
     returns-2
     returns-3
-    returns-4)
+    returns-4
+    returns-5)

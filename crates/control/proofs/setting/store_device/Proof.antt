@@ -1,43 +1,49 @@
+-- `control::setting::store_device` meets its contract: what the pass leaves is stored, unless it carries a device out. Assumes nothing.
+use native.Mathlib.Omega.{arith}
+use borrow.Author.Tests.{eq-eqb, ne-eqb}
+use Rattle.control.proofs.ValueLaws.{settable-row}
+use Rattle.control.proofs.DeviceLaws.{numbers-low, line-ready, stored-none, slots-ready, stored-device}
 use Rattle.control.proofs.setting.store_device.Statement.{statement}
 use Rattle.control.proofs.setting.store_device.Tie as tie
-use Rattle.control.proofs.setting.store_device.Reads as reads
-use Rattle.control.proofs.setting.store_device.Lts as lts
-use Rattle.devices.proofs.table.after_line.Reads as after-line-reads
-use Rattle.text.proofs.amount.device_of.Reads as device-of-reads
-use Rattle.tree.proofs.device.set_slots.Reads as set-slots-reads
-use Rattle.tree.proofs.device.slots.Reads as slots-reads
 
--- src/setting.rt:95:28
 slots-requires : tie.Need-slots-requires
-slots-requires c κs = ?
+slots-requires c κs = settable-row _ _ _ (c .before .pre) .low
 
--- src/setting.rt:95:41
 device-of-requires : tie.Need-device-of-requires
-device-of-requires c κs = ?
+device-of-requires c κs = numbers-low _ _ _ _ _ (c .before .before .pre)
 
--- src/setting.rt:95:9
 after-line-requires : tie.Need-after-line-requires
-after-line-requires c κs = ?
+after-line-requires c κs =
+    let l = c .before in
+    line-ready _ _ _ _ _ (l .before .before .pre) _ _ (l .slots .ensures) (c .device-of .ensures)
 
--- src/setting.rt:99:9
 returns : tie.Need-returns
-returns c = ?
+returns c =
+    let w = c .before .before .before .before in
+    let d = w .before in
+    let l = d .before in
+    stored-none _ _ _ _ _ (l .before .before .pre) _ _ _ (l .slots .ensures) (d .device-of .ensures) (w .after-line .ensures)
+    (ne-eqb _ 0 (c .if1 .taken))
 
--- src/setting.rt:101:5
 set-slots-requires : tie.Need-set-slots-requires
-set-slots-requires c κs = ?
+set-slots-requires c κs =
+    let e = c .before in
+    let w = e .before .before .before .before in
+    let d = w .before in
+    let l = d .before in
+    let s = l .before .before in (
+      settable-row _ _ _ (s .pre),
+      slots-ready _ _ _ _ _ (s .pre) _ _ _ (l .slots .ensures) (d .device-of .ensures) (w .after-line .ensures) (eq-eqb (w .after-line .result .out .device) 0 (omega arith)),
+    )
 
--- src/setting.rt:91:1
 returns-2 : tie.Need-returns-2
-returns-2 c = ?
+returns-2 c =
+    let e = c .before .before in
+    let w = e .before .before .before .before in
+    let d = w .before in
+    let l = d .before in
+    stored-device _ _ _ _ _ (l .before .before .pre) _ _ _ (l .slots .ensures) (d .device-of .ensures) (w .after-line .ensures)
+    (eq-eqb (w .after-line .result .out .device) 0 (omega arith)) _ (c .set-slots .ensures)
 
 pub store-device-spec : {M : Type 1} → statement M
-store-device-spec =
-    tie.close
-    (tie.spec
-    slots-requires
-    device-of-requires
-    after-line-requires
-    returns
-    set-slots-requires
-    returns-2)
+store-device-spec = tie.close (tie.spec slots-requires device-of-requires after-line-requires returns set-slots-requires returns-2)

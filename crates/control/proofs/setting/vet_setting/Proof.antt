@@ -14,7 +14,7 @@ use Rattle.model.specs.Tree.{Tree, lives, parents}
 use Rattle.model.specs.Hierarchy.{on}
 use Rattle.model.specs.Settings.{settingController}
 use Rattle.model.specs.Rules.{mayWrite}
-use Rattle.model.specs.Calls.{checks, verdict}
+use Rattle.model.specs.Calls.{settingChecks}
 use Rattle.model.proofs.CheckLaws.{says-first}
 use Rattle.model.proofs.VetLaws.{tested, may-write-parent, vets}
 use Rattle.text.proofs.NameLaws.{is-setting, no-setting}
@@ -75,7 +75,7 @@ may-found c d h =
 
 -- Einval: no group number
 returns : tie.Need-returns
-unfolding verdict checks
+unfolding settingChecks
 returns c = search vets depth 12 fits 4000
 
 is-live-requires : tie.Need-is-live-requires
@@ -83,7 +83,7 @@ is-live-requires c κs = search needs
 
 -- Enoent: not live
 returns-2 : tie.Need-returns-2
-unfolding verdict checks
+unfolding settingChecks
 returns-2 c = search vets depth 12 fits 4000
 
 setting-named-requires : tie.Need-setting-named-requires
@@ -97,7 +97,7 @@ enum-told c = search needs
 
 -- Enoent: no such setting
 returns-3 : tie.Need-returns-3
-unfolding verdict checks
+unfolding settingChecks
 returns-3 c =
     let n = c .before .before in
     let file = start (ranged-at (n .before)) .args .file .now in
@@ -114,7 +114,7 @@ is-on-requires c κs =
 
 -- Enoent: its controller is not on
 returns-4 : tie.Need-returns-4
-unfolding verdict checks
+unfolding settingChecks
 returns-4 c =
     let k = ap known (setting (c .before .before .before)) in
     let o = on-found (c .before) in
@@ -130,7 +130,7 @@ may-write-requires c κs =
 
 -- Eacces: the parent's owner may, and the group's own may not
 returns-5 : tie.Need-returns-5
-unfolding verdict checks
+unfolding settingChecks
 returns-5 c =
     let i = c .before .before .before in
     let n = named-at i in
