@@ -7,12 +7,14 @@ use mathlib.Core.List.{List, [], _∷_, _++_}
 use mathlib.Core.Logic.{_⊎_, inl, inr}
 use mathlib.Core.Option.{Option, none, some}
 use mathlib.Core.Path.{_≡_, refl, ap, ap₂, sym, _∙_, fun-ext, subst}
+use lib.Dec.{eqb}
+use borrow.Author.Tests.{ne-eqb}
 use Rattle.model.specs.Functions.{upd, pick}
 use Rattle.model.specs.Checks.{errnoNumber, answerNumber, first, Check}
-use Rattle.model.specs.Tree.{Tree, Core, Group, Process, Settings, settingsOf, controllerOf, withLimits, withSettings, noGroup, atGroup, atProcess, cores, parents, sets, settingsAt, places}
+use Rattle.model.specs.Tree.{Tree, Core, Group, Process, Settings, newSettings, settingsOf, withLimits, withSettings, noGroup, atGroup, atProcess, cores, parents, sets, settingsAt, places}
 use Rattle.model.specs.Hierarchy.{childOf, usage, factsOf}
 use Rattle.model.specs.Control.{asked, isDropped}
-use Rattle.model.specs.Settings.{assign, reset}
+use Rattle.model.specs.Settings.{assign, piece, AtDefault, reset}
 use Rattle.model.specs.Rooms.{Room, room, full, roomFor, isFull, shortage}
 use Rattle.model.specs.Rules.{processGroup, lineProcess, leaving}
 use Rattle.model.specs.Calls.{Call, lineValue, chargeChecks, forkChecks, checks, verdict}
@@ -24,7 +26,8 @@ use Rattle.model.specs.Lists.{log, bookAfter}
 use Rattle.model.specs.declared.Resource.{Resource}
 use Rattle.model.specs.declared.Resource.the-variants.{Pages, Processes}
 use Rattle.model.specs.declared.Limit.{Limit}
-use Rattle.model.specs.declared.Limit.the-variants.{NoLimit}
+use Rattle.model.specs.declared.Controller.{Controller}
+use Rattle.model.specs.declared.Controller.the-variants.{Memory, Pids}
 use Rattle.model.specs.declared.SettingValue.{SettingValue}
 use Rattle.model.specs.declared.SettingValue.the-variants.{Weight, Quota, Bandwidth, Device, Maximum}
 use Rattle.model.specs.declared.Errno.{Errno}
@@ -32,10 +35,10 @@ use Rattle.model.specs.declared.Errno.the-variants.{Enoent, Esrch, Eagai
 use Rattle.model.specs.declared.Answer.{Answer}
 use Rattle.model.specs.declared.Answer.the-variants.{Done, Refused}
 use Rattle.model.proofs.FunctionLaws.{split, upd-map, upd-keeps}
-use Rattle.model.proofs.CheckLaws.{first-append, andThen}
+use Rattle.model.proofs.CheckLaws.{errno-positive, first-append, andThen}
 use Rattle.model.proofs.ControlLaws.{leave-dropped}
 use Rattle.model.proofs.AmountLaws.{usage-fresh}
-use Rattle.model.proofs.RoomLaws.{default-limit}
+use Rattle.model.proofs.PieceLaws.{piece-after-reset}
 use Rattle.model.proofs.RuleLaws.{on-other}
 use Rattle.model.proofs.Preservation.{cores-after-remove}
 use Rattle.model.proofs.Changes.{WritesSetting}
@@ -72,6 +75,12 @@ reply-number t c = go (sortOf c)
     go (asking k) = asked-number t k
     go (delivering text buffer) = read-number (verdict t c) _
 
+pub number-accepted : (t : Tree) (c : Call) → verdict t c ≡ Done → eqb (reply t c .number) 0 ≡ true
+number-accepted t c e = rw (reply-number t c, e)
+
+pub number-refused : (t : Tree) (c : Call) (x : Errno) → verdict t c ≡ Refused x → eqb (reply t c .number) 0 ≡ false
+number-refused t c x e = ne-eqb _ 0 (λ d. errno-positive x (sym (reply-number t c ∙ ap answerNumber e) ∙ d))
+
 -- What the two keep is the same.
 pub record Same (t : Tree) (b : Book) : Type 0 where
   pub machine : t .machine ≡ b .machine
@@ -85,31 +94,35 @@ bookWith t mark = record { machine = t .machine; group = cores t; mark = mark; p
 pub book-with-same : (t : Tree) (b : Book) → Same t b → bookWith t (b .mark) ≡ b
 book-with-same t b s = λ i. record { machine = s .machine i; group = s .groups i; mark = b .mark; place = s .places i }
 
--- A control line: where a controller was not in the set, the children have no limit to lose.
-module _ (t : Tree) (w : WellFormed t) (g : ℕ) (line : List ℕ) where
-  lost : (b : Bool) (r : Resource) (l : Limit) → (b ≡ false → l ≡ NoLimit)
-      → pick (isDropped (asked line (controllerOf r)) && b) NoLimit l ≡ pick (isDropped (asked line (controllerOf r))) NoLimit l
-  lost b r l h = go (isDropped (asked line (controllerOf r))) b h
-    where
-      go : (d b : Bool) → (b ≡ false → l ≡ NoLimit) → pick (d && b) NoLimit l ≡ pick d NoLimit l
-      go true true h = refl
-      go true false h = h refl
-      go false b h = refl
+-- nothing is lost by one who has nothing
+lost : {A : Type 0} (d b : Bool) (x y : A) → (b ≡ false → y ≡ x) → pick (d && b) x y ≡ pick d x y
+lost true true x y h = refl
+lost true false x y h = h refl
+lost false b x y h = refl
 
-  child-limit : (k : ℕ) → childOf g k (cores t k) ≡ true → (r : Resource) → sets t g (controllerOf r) ≡ false → t .group k .core .limit r ≡ NoLimit
-  child-limit k y r n =
-      default-limit t r k
-      (w .defaults .off (controllerOf r) k (child-live g k (cores t k) y)
-      (on-other (parents t) (sets t) (controllerOf r) k (child-not-root g k (cores t k) y) ∙ rw (child-parent g k (cores t k) y) n))
+-- A control line, of any controller: where it was not in the set, the children have nothing to lose.
+module _ (t : Tree) (w : WellFormed t) (g : ℕ) (line : List ℕ) where
+  child-default : (c : Controller) (k : ℕ) → childOf g k (cores t k) ≡ true → sets t g c ≡ false → AtDefault c (settingsAt t k)
+  child-default c k y n =
+      w .defaults .off c k (child-live g k (cores t k) y)
+      (on-other (parents t) (sets t) c k (child-not-root g k (cores t k) y) ∙ rw (child-parent g k (cores t k) y) n)
+
+  pub child-piece : (c : Controller) (k : ℕ) → childOf g k (cores t k) ≡ true
+      → piece c (reset (leaving t g line) (settingsAt t k)) ≡ pick (isDropped (asked line c)) (piece c newSettings) (piece c (settingsAt t k))
+  unfolding AtDefault
+  child-piece c k y =
+      piece-after-reset (leaving t g line) (settingsAt t k) c
+      ∙ ap (λ d. pick d (piece c newSettings) (piece c (settingsAt t k))) (leave-dropped (sets t g c) (asked line c))
+      ∙ lost (isDropped (asked line c)) (sets t g c) (piece c newSettings) (piece c (settingsAt t k)) (child-default c k y)
+
+  child-limit : (k : ℕ) → childOf g k (cores t k) ≡ true → (r : Resource)
+      → reset (leaving t g line) (settingsAt t k) .limit r ≡ limitsAfter line (t .group k .core .limit) r
+  child-limit k y Pages = child-piece Memory k y
+  child-limit k y Processes = child-piece Pids k y
 
   child-same : (k : ℕ) → childOf g k (cores t k) ≡ true
       → withLimits (reset (leaving t g line) (settingsAt t k) .limit) (cores t k) ≡ withLimits (limitsAfter line (t .group k .core .limit)) (cores t k)
-  unfolding reset
-  child-same k y =
-      ap (λ (l : Resource → Limit). withLimits l (cores t k))
-      (fun-ext
-      (λ r. ap (λ d. pick d NoLimit (t .group k .core .limit r)) (leave-dropped (sets t g (controllerOf r)) (asked line (controllerOf r)))
-      ∙ lost (sets t g (controllerOf r)) r (t .group k .core .limit r) (child-limit k y r)))
+  child-same k y = ap (λ (l : Resource → Limit). withLimits l (cores t k)) (fun-ext (child-limit k y))
 
   -- the tree's side, then the book's
   core-of-child : (k : ℕ) → childOf g k (cores t k) ≡ true

@@ -29,6 +29,7 @@ pub mod ProcessLaws
 pub mod Books
 pub mod Bounds
 pub mod States
+pub mod DeviceBooks
 pub mod Marks
 pub mod Reached
 pub mod FileReads

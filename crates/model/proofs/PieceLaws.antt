@@ -22,7 +22,7 @@ use Rattle.model.proofs.FunctionLaws.{split}
 use Rattle.model.proofs.SettingLaws.{settingOf, settingOf-valueOf}
 
 -- The piece of a controller, after a reset and after a value for another one's setting.
-piece-after-reset : (gone : Controller → Bool) (st : Settings) (c : Controller)
+pub piece-after-reset : (gone : Controller → Bool) (st : Settings) (c : Controller)
     → piece c (reset gone st) ≡ pick (gone c) (piece c newSettings) (piece c st)
 unfolding reset
 piece-after-reset gone st Cpu = refl

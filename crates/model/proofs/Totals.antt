@@ -6,9 +6,7 @@ use mathlib.Core.Bool.{true, false}
 use mathlib.Core.List.{List, [], _∷_}
 use mathlib.Core.Path.{_≡_, refl, ap, ap₂, sym, _∙_}
 use lib.Dec.{eqb}
-use borrow.Author.Tests.{ne-eqb}
 use Rattle.model.specs.Functions.{weigh}
-use Rattle.model.specs.Checks.{answerNumber}
 use Rattle.model.specs.Tree.{Tree, Group, Process, Place, nowhere, at, groupOf, atGroup, atProcess, cores, lives, parents, depths, places}
 use Rattle.model.specs.Hierarchy.{inside, headcount, population, amount}
 use Rattle.model.specs.Rules.{leaving}
@@ -21,14 +19,13 @@ use Rattle.model.specs.Totals.{Flow, flow, ofResource, brought, taken, t
 use Rattle.model.specs.declared.Resource.{Resource}
 use Rattle.model.specs.declared.Resource.the-variants.{Pages, Processes}
 use Rattle.model.proofs.FunctionLaws.{upd-map, upd-keeps, weigh-yes, weigh-no, weigh-zero}
-use Rattle.model.proofs.CheckLaws.{errno-positive}
 use Rattle.model.proofs.ChainLaws.{root-inside}
 use Rattle.model.proofs.AmountLaws.{population-same, population-change, amount-after-make, amount-after-remove}
 use Rattle.model.proofs.Preservation.{Patch, usage-after-patch, cores-after-remove}
 use Rattle.model.proofs.ControlPreservation.{amount-after-control}
 use Rattle.model.proofs.Changes.{Flowed, still, came, went, Placing, place-stands, Change, nothing, placed, altered, made, removal, control}
 use Rattle.model.proofs.Steps.{step-accepted, step-refused, by-verdict, passed, change, well-formed-step}
-use Rattle.model.proofs.Books.{reply-number}
+use Rattle.model.proofs.Books.{number-accepted, number-refused}
 
 -- what the root of a tree holds
 abbrev heldIn : Tree → Resource → ℕ
@@ -108,11 +105,9 @@ module _ (t : Tree) (w : WellFormed t) where
       → heldIn t r + weigh (eqb (reply t c .number) 0) (brought r (flow c)) ≡ heldIn (step t c) r + weigh (eqb (reply t c .number) 0) (taken r (flow c))
   balanced-step r c =
       by-verdict t c
-      (λ e. let z : eqb (reply t c .number) 0 ≡ true = rw (reply-number t c, e) in
-      rw (z, step-accepted t c e)
+      (λ e. rw (number-accepted t c e, step-accepted t c e)
       (ap₂ _+_ refl (weigh-yes true _ refl) ∙ balanced-change (change t c w (passed t c e)) r ∙ ap₂ _+_ refl (sym (weigh-yes true _ refl))))
-      (λ x e. let z : eqb (reply t c .number) 0 ≡ false = ne-eqb _ 0 (λ d. errno-positive x (sym (reply-number t c ∙ ap answerNumber e) ∙ d)) in
-      rw (z, step-refused t c x e) (ap₂ _+_ refl (weigh-no false _ refl ∙ sym (weigh-no false _ refl))))
+      (λ x e. rw (number-refused t c x e, step-refused t c x e) (ap₂ _+_ refl (weigh-no false _ refl ∙ sym (weigh-no false _ refl))))
 
 pub balanced-run : (cs : List Call) (t : Tree) → WellFormed t → Balanced t (log t cs) (run t cs)
 unfolding total log run

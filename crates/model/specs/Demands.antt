@@ -30,6 +30,7 @@ use Rattle.model.specs.Containment.{OwnsInside, Contained, OneKind, Neve
 use Rattle.model.specs.Marks.{AtLastWrite, MarkIs}
 use Rattle.model.specs.Totals.{Balanced}
 use Rattle.model.specs.DeviceRules.{DeviceRules}
+use Rattle.model.specs.DeviceBook.{noAccount, accountOf, accountAfter, Accounted}
 use Rattle.model.specs.declared.Resource.{Resource}
 use Rattle.model.specs.declared.Resource.the-variants.{Pages, Processes}
 use Rattle.model.specs.declared.Limit.the-variants.{Figure}
@@ -178,14 +179,17 @@ pub record Demand3 (t : Tree) (b : Book) (cs : List Call) : Type 0 where
       → Accepted (run t xs) c
       → NoneOver r (bookAfter t b (xs ++ (c ∷ []))) (groupOf (bookAfter t b (xs ++ (c ∷ [])) .place p))
   pub balanced : Balanced t (log t cs) (run t cs)
+  -- order 1: io.max keeps what the accepted writes gave, and nothing else
+  pub devices : Accounted (run t cs) (accountAfter t b (accountOf t) cs)
 
 -- "Take every list of calls .. from a fresh tree of whatever machine size." Where the list begins a group has no limit, so each
--- mark is from a write, and a user other than 0 owns nothing.
+-- mark is from a write, and so is each limit of a device; and a user other than 0 owns nothing.
 pub record FromFresh (m : ℕ) : Type 0 where
   pub third : (cs : List Call) → Demand3 (fresh m) (freshBook m) cs
   pub mark : (cs : List Call) (g l : ℕ) → bookAfter (fresh m) (freshBook m) cs .group g .limit Pages ≡ Figure l
       → AtLastWrite (fresh m) cs g (bookAfter (fresh m) (freshBook m) cs .mark g)
   pub owns : (user d : ℕ) → user ≢ 0 → OwnsInside (fresh m) user d
+  pub devices : (cs : List Call) → Accounted (run (fresh m) cs) (accountAfter (fresh m) (freshBook m) noAccount cs)
 
 -- What is said of marks settles them.
 abbrev pub OneMark : Type 0

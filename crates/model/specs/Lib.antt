@@ -24,6 +24,7 @@ pub mod Containment
 pub mod Marks
 pub mod Totals
 pub mod DeviceRules
+pub mod DeviceBook
 pub mod Demands
 pub mod Worked
 pub mod Refusals
