@@ -96,7 +96,7 @@ checks! {
     write_setting {
         22 ABOVE_63 "above 63",
         2 NOT_LIVE "not live",
-        2 NOT_A_SETTING "not one of the four settings",
+        2 NOT_A_SETTING "not one of the five settings",
         2 NOT_ON "its controller not on",
         13 MAY_NOT_WRITE_PARENT "may not write G's parent",
         22 LONG_LINE "line of more than 128 bytes",
@@ -104,8 +104,12 @@ checks! {
         22 MORE_WORDS "too many words",
         22 MALFORMED "first word malformed",
         22 PERIOD_MALFORMED "period malformed",
+        22 BAD_PAIR "a word after the device is no pair",
+        22 KEY_TWICE "a key given twice",
         34 RANGE "range",
         34 PERIOD_RANGE "range of the period",
+        34 VALUE_RANGE "range of a key's value",
+        28 FIFTH_DEVICE "a fifth device",
     }
     admit {
         22 IS_0 "is 0",
@@ -205,15 +209,45 @@ const NEVER: &[(&[&Check], &[&Check], &str)] = &[
             write_setting::MORE_WORDS,
             write_setting::MALFORMED,
             write_setting::PERIOD_MALFORMED,
+            write_setting::BAD_PAIR,
+            write_setting::KEY_TWICE,
             write_setting::RANGE,
             write_setting::PERIOD_RANGE,
+            write_setting::VALUE_RANGE,
+            write_setting::FIFTH_DEVICE,
         ],
         "only a setting has a form and a range",
     ),
     (
         &[write_setting::NO_WORD],
-        &[write_setting::RANGE, write_setting::PERIOD_RANGE],
+        &[write_setting::RANGE, write_setting::PERIOD_RANGE, write_setting::VALUE_RANGE],
         "no word, no figure",
+    ),
+    (
+        &[write_setting::MORE_WORDS, write_setting::PERIOD_MALFORMED],
+        &[write_setting::VALUE_RANGE],
+        "io.max takes any number of words and has no period",
+    ),
+    (
+        &[write_setting::BAD_PAIR, write_setting::KEY_TWICE],
+        &[write_setting::PERIOD_RANGE],
+        "a period is no pair",
+    ),
+    (
+        &[write_setting::ABOVE_63, write_setting::NOT_LIVE, write_setting::NOT_ON],
+        &[write_setting::FIFTH_DEVICE],
+        "where io is not on no device is held",
+    ),
+    (
+        &[
+            write_setting::NO_WORD,
+            write_setting::MORE_WORDS,
+            write_setting::MALFORMED,
+            write_setting::PERIOD_MALFORMED,
+            write_setting::PERIOD_RANGE,
+        ],
+        &[write_setting::FIFTH_DEVICE],
+        "no device is named",
     ),
     (&[write_setting::MALFORMED], &[write_setting::RANGE], "a malformed word is no figure"),
     (

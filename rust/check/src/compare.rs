@@ -12,22 +12,26 @@ use crate::model::Model;
 mod probes;
 
 /// Every file that a group can have, and one that none has.
-pub const FILES: [&[u8]; 11] = [
+pub const FILES: [&[u8]; 12] = [
     b"cgroup.procs",
     b"cgroup.controllers",
     b"cgroup.subtree_control",
     b"cgroup.events",
+    b"cpu.weight",
+    b"cpu.max",
+    b"io.max",
     b"memory.current",
     b"memory.max",
     b"pids.current",
     b"pids.max",
-    b"cpu.weight",
-    b"cpu.max",
     b"cgroup.type",
 ];
 
-/// More than the longest list of processes, with bytes to spare after it; more than any other text;
-/// and the bytes on either side of such a buffer.
+/// The files whose texts are lists: of processes, and of devices.
+const LISTS: [&[u8]; 2] = [b"cgroup.procs", b"io.max"];
+
+/// More than the longest list, with bytes to spare after it; more than any other text; and the bytes
+/// on either side of such a buffer.
 pub const ROOM: usize = 960;
 const SMALL_ROOM: usize = 48;
 const MARGIN: usize = 16;
@@ -103,7 +107,7 @@ impl<H: Calls> Pair<H> {
     fn survey(&mut self) -> Result<(), Box<Difference>> {
         for group in 0..=64 {
             for file in FILES {
-                let room = if file == b"cgroup.procs" { ROOM } else { SMALL_ROOM };
+                let room = if LISTS.contains(&file) { ROOM } else { SMALL_ROOM };
                 let read = |host: &dyn Reads, reply: &mut [u8], told: &mut [u64; 1]| {
                     host.read_file(group, file, reply, told)
                 };
@@ -124,8 +128,7 @@ impl<H: Calls> Pair<H> {
     }
 
     /// Whether both answer a reading alike, every byte of the buffers and of their margins included,
-    /// and the words on either side of `told`. A byte changed further on is found with the next list
-    /// of processes.
+    /// and the words on either side of `told`. A byte changed further on is found with the next list.
     fn alike(
         &mut self,
         room: usize,

@@ -1,6 +1,7 @@
 //! A list of calls, two for each pair of checks that can hold in one call: on a tree where every
 //! check can, all arguments of a short list each are tried with all others. Dice come to most pairs;
-//! this leaves none to them. On the same tree go on the lists of [`sizes`], [`names`] and [`depths`].
+//! this leaves none to them. On the same tree go on the lists of [`sizes`], [`names`], [`depths`] and
+//! [`devices`].
 
 use std::collections::BTreeMap;
 
@@ -9,7 +10,7 @@ use crate::calls::Calls;
 use crate::checks::{Check, TABLE, besides, never, with};
 use crate::compare::FILES;
 use crate::model::Model;
-use crate::{depths, names, sizes};
+use crate::{depths, devices, names, sizes};
 
 pub const MACHINE: u64 = 64;
 
@@ -18,10 +19,14 @@ const GROUPS: [u64; 11] = [0, 1, 2, 3, 4, 5, 10, 17, 63, 64, u64::MAX];
 const PROCESSES: [u64; 6] = [0, 5, 6, 9, 77, 257];
 const USERS: [u32; 3] = [0, 7, 8];
 const PAGES: [u64; 5] = [0, 1, 1_048_576, 1_048_577, u64::MAX];
-const SETTINGS: [&str; 5] = ["memory.max", "pids.max", "cpu.weight", "cpu.max", "io.max"];
+/// The settings that take figures, and a file that is none.
+const SETTINGS: [&str; 5] = ["memory.max", "pids.max", "cpu.weight", "cpu.max", "io.weight"];
 const NUMBERS: [&str; 7] = ["0", "5", "6", "9", "77", "257", "x"];
 const FIGURES: [&str; 5] = ["0", "1000", "9999999999999999", "max", "x"];
-const CONTROLS: [&str; 7] = ["+cpu", "+memory", "+pids", "-cpu", "-memory", "-pids", "x"];
+/// Words of io.max, where the first device is a fifth.
+const DEVICES: [&str; 6] = ["9:0", "256:0", "rbps=1", "wbps=0", "riops=max", "x"];
+const CONTROLS: [&str; 9] =
+    ["+cpu", "+io", "+memory", "+pids", "-cpu", "-io", "-memory", "-pids", "x"];
 
 pub fn calls() -> Vec<Call> {
     let mut calls = tree();
@@ -35,12 +40,14 @@ pub fn calls() -> Vec<Call> {
     calls.extend(sizes::calls(&model));
     calls.extend(names::calls());
     calls.extend(depths::calls(&model));
+    calls.extend(devices::calls());
     calls
 }
 
-/// Groups 1 to 4 are user 7's; 2 and 3, below it, have cpu in their sets, and pids is not on there.
-/// So has 5 beside them, user 0's. Processes 5 and 6, user 7's and user 8's, stand in 4 and find no
-/// room above it; 9, user 7's, is in the root. Group 17 is at depth 8.
+/// Groups 1 to 4 are user 7's; 2 and 3, below it, have cpu in their sets, and neither io nor pids is
+/// on there. So has 5 beside them, user 0's. Group 1 holds four devices. Processes 5 and 6, user 7's
+/// and user 8's, stand in 4 and find no room above it; 9, user 7's, is in the root. Group 17 is at
+/// depth 8.
 fn tree() -> Vec<Call> {
     let make = |user, parent, group| Call::Make { user, parent, group };
     let control =
@@ -50,8 +57,12 @@ fn tree() -> Vec<Call> {
         let (file, line) = (file.into(), b"0".to_vec());
         Call::WriteSetting { user: 0, group: 1, file, line }
     };
+    let device = |major: u64| {
+        let (file, line) = (b"io.max".to_vec(), format!("{major}:16 rbps=7").into());
+        Call::WriteSetting { user: 0, group: 1, file, line }
+    };
     let mut calls = vec![
-        control(0, "+cpu +memory +pids"),
+        control(0, "+cpu +io +memory +pids"),
         make(0, 0, 1),
         Call::HandOver { user: 0, group: 1, owner: 7 },
         control(1, "+cpu +memory"),
@@ -72,6 +83,7 @@ fn tree() -> Vec<Call> {
         limit("pids.max"),
         make(0, 0, 10),
     ];
+    calls.extend((1..=4).map(device));
     calls.extend((10..17).map(|group| make(0, group, group + 1)));
     calls
 }
@@ -131,15 +143,18 @@ fn every(name: &str) -> Vec<Call> {
             by_user(&|user, group| lines.iter().map(|l| write(user, group, l.clone())).collect())
         }
         "write_setting" => {
-            let lines = lines(&FIGURES, 3);
+            let (figures, devices) = (lines(&FIGURES, 3), lines(&DEVICES, 3));
             let write = |user, group, file: &str, line: &Vec<u8>| {
                 let (file, line) = (file.into(), line.clone());
                 Call::WriteSetting { user, group, file, line }
             };
-            let to = |user, group, file| {
+            let to = |user, group, file, lines: &[Vec<u8>]| {
                 lines.iter().map(|line| write(user, group, file, line)).collect::<Vec<_>>()
             };
-            by_user(&|user, group| SETTINGS.map(|file| to(user, group, file)).concat())
+            by_user(&|user, group| {
+                let of_figures = SETTINGS.map(|file| to(user, group, file, &figures)).concat();
+                [of_figures, to(user, group, "io.max", &devices)].concat()
+            })
         }
         "admit" => by_process(&|process| vec![Call::Admit { process, user: 7 }]),
         "fork" => {

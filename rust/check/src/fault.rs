@@ -11,6 +11,7 @@ use crate::calls::Calls;
 use crate::checks::Check;
 use crate::model::{Model, Settings};
 
+mod devices;
 mod instead;
 mod outcomes;
 mod readers;

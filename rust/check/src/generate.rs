@@ -11,6 +11,7 @@ use crate::model::Model;
 use crate::random::Random;
 
 mod arguments;
+mod devices;
 mod lines;
 mod scenes;
 mod singles;

@@ -1,5 +1,5 @@
 //! The kinds of what is read and asked: values of each file, lengths of buffers and lines, names,
-//! lines of the question, pages released, limits above depth 8.
+//! lines of the question, pages released, limits above depth 8, devices.
 
 use crate::call::Call;
 use crate::calls::Calls;
@@ -7,11 +7,29 @@ use crate::checks::{Check, membership, read, write_procs, write_setting, write_s
 use crate::compare::FILES;
 use crate::model::{MEMORY, Model, control_word, words};
 
+mod devices;
+
 /// What is read, and one kind of it.
 pub type Kind = (&'static str, &'static str);
 
-const SETS: &[&str] =
-    &["none", "cpu", "memory", "cpu memory", "pids", "cpu pids", "memory pids", "cpu memory pids"];
+const SETS: &[&str] = &[
+    "none",
+    "cpu",
+    "io",
+    "cpu io",
+    "memory",
+    "cpu memory",
+    "io memory",
+    "cpu io memory",
+    "pids",
+    "cpu pids",
+    "io pids",
+    "cpu io pids",
+    "memory pids",
+    "cpu memory pids",
+    "io memory pids",
+    "cpu io memory pids",
+];
 
 /// Every text there is: those of files, and the line that is none.
 pub const TEXTS: &[&str] = &[
@@ -19,20 +37,28 @@ pub const TEXTS: &[&str] = &[
     "cgroup.controllers",
     "cgroup.subtree_control",
     "cgroup.events",
+    "cpu.weight",
+    "cpu.max",
+    "io.max",
     "memory.current",
     "memory.max",
     "pids.current",
     "pids.max",
-    "cpu.weight",
-    "cpu.max",
     "membership",
 ];
 
-const NAMES: &[&str] = TEXTS.split_at(10).0;
+const NAMES: &[&str] = TEXTS.split_at(11).0;
 
 /// The files that are written.
-pub const WRITTEN: &[&str] =
-    &["cgroup.procs", "cgroup.subtree_control", "memory.max", "pids.max", "cpu.weight", "cpu.max"];
+pub const WRITTEN: &[&str] = &[
+    "cgroup.procs",
+    "cgroup.subtree_control",
+    "cpu.weight",
+    "cpu.max",
+    "io.max",
+    "memory.max",
+    "pids.max",
+];
 
 const DEPTHS: [&str; 9] = [
     "stopped at depth 0",
@@ -70,6 +96,8 @@ pub const KINDS: &[(&str, &[&str])] = &[
             "a figure, another period",
         ],
     ),
+    ("io.max", devices::TEXTS),
+    ("io.max written", devices::WRITTEN),
     ("membership", &["the root", "depth 1", "deeper", "depth 8"]),
     ("buffer of exactly the length", TEXTS),
     ("buffer one byte short", TEXTS),
@@ -195,6 +223,7 @@ fn value_kind(file: &str, text: &str) -> Kind {
             let period = if value.ends_with(" 100000") { "default" } else { "another" };
             format!("{limit}, {period} period")
         }
+        "io.max" => devices::text(text).to_string(),
         _ => value.to_string(),
     };
     kind(file, &name)
@@ -241,9 +270,10 @@ pub fn of_call(model: &Model, call: &Call, held: &[&'static Check]) -> Vec<Kind>
             long_line("cgroup.subtree_control", line.len())
         }
         Call::WriteSubtreeControl { group, line, .. } => many_words(model, *group, line, held),
-        Call::WriteSetting { file, line, .. } => {
+        Call::WriteSetting { group, file, line, .. } => {
             let file = String::from_utf8_lossy(file);
             match held {
+                [] if file == "io.max" => devices::written(model, *group, line),
                 [check] if *check == write_setting::LONG_LINE => long_line(&file, line.len()),
                 [check] if *check == write_setting::NOT_A_SETTING => near("written", &file),
                 _ => vec![],

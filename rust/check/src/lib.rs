@@ -7,8 +7,8 @@
 //! - [`calls`], [`call`]: what both answer, as a trait and as a value
 //! - [`generate`]: lists of calls from a seed
 //! - [`crossed`], [`heap`]: two lists more, for pairs of checks and for many pages
-//! - [`sizes`], [`names`], [`depths`]: parts of the first: long lines and large buffers, near names,
-//!   limits above depth 8
+//! - [`sizes`], [`names`], [`depths`], [`devices`]: parts of the first: long lines and large buffers,
+//!   near names, limits above depth 8, lines of io.max
 //! - [`compare`], [`explore`]: one list, and many
 //! - [`counts`], [`kinds`]: what the lists came to, and what they never did
 //! - [`shrink`]: a short list from a long one
@@ -24,6 +24,7 @@ pub mod compare;
 pub mod counts;
 pub mod crossed;
 pub mod depths;
+pub mod devices;
 pub mod explore;
 pub mod fault;
 pub mod generate;

@@ -49,7 +49,7 @@ fn main() -> ExitCode {
     if words.iter().any(|word| word == "--help") {
         println!("{USAGE}\n");
         for (fault, number) in Fault::ALL.iter().zip(1..) {
-            println!("  fault {number:2}  {fault}");
+            println!("  fault {number:3}  {fault}");
         }
         return ExitCode::SUCCESS;
     }

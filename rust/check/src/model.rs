@@ -1,6 +1,7 @@
-//! Document 01 as a plain program. Written from the paper alone, to be read beside it: nothing is
-//! kept that can be worked out, so depths, usages and counts are found anew each time, over all
-//! groups and all processes. The words are the paper's. It is slow and knows no C.
+//! Document 01 as a plain program, with order 1 of document 02. Written from the papers alone, to be
+//! read beside them: nothing is kept that can be worked out, so depths, usages and counts are found
+//! anew each time, over all groups and all processes. The words are the papers'. It is slow and knows
+//! no C.
 //!
 //! Each call has its checks as a list, in the paper's order, and what it does when none of them
 //! holds. A check can be asked even where an earlier one holds: of a group or a process that is not
@@ -11,6 +12,7 @@
 use crate::checks::Check;
 
 mod answers;
+mod devices;
 mod files;
 mod follows;
 mod groups;
@@ -18,6 +20,8 @@ mod lines;
 mod processes;
 mod readers;
 
+pub use devices::{Device, Held, KEYS, Limits};
+pub(crate) use devices::{DeviceLine, NO_LIMITS, listed_devices};
 pub(crate) use lines::{control_word, number, words};
 
 const ROOT: u64 = 0;
@@ -30,20 +34,21 @@ const MOST_PAGES: u64 = 1_048_576;
 const LONGEST_LINE: usize = 128;
 
 /// The controllers, in the order of listing.
-pub const CONTROLLERS: [&str; 3] = ["cpu", "memory", "pids"];
+pub const CONTROLLERS: [&str; 4] = ["cpu", "io", "memory", "pids"];
 pub const CPU: usize = 0;
-pub const MEMORY: usize = 1;
-pub const PIDS: usize = 2;
+pub const IO: usize = 1;
+pub const MEMORY: usize = 2;
+pub const PIDS: usize = 3;
 
 /// A control set: whether each controller is in it.
-pub type Set = [bool; 3];
+pub type Set = [bool; CONTROLLERS.len()];
 
-const EMPTY: Set = [false; 3];
+pub(crate) const EMPTY: Set = [false; CONTROLLERS.len()];
 
 /// A limit: a figure, or no limit at all.
 pub type Limit = Option<u64>;
 
-#[derive(Clone, Copy)]
+#[derive(Clone)]
 pub struct Group {
     pub parent: u64,
     pub owner: u32,
@@ -52,13 +57,15 @@ pub struct Group {
     pub settings: Settings,
 }
 
-#[derive(Clone, Copy)]
+#[derive(Clone)]
 pub struct Settings {
     pub memory_max: Limit,
     pub pids_max: Limit,
     pub cpu_weight: u64,
     pub cpu_max: Limit,
     pub cpu_period: u64,
+    /// In the order in which the devices came.
+    pub io_max: Vec<Held>,
 }
 
 pub const DEFAULTS: Settings = Settings {
@@ -67,6 +74,7 @@ pub const DEFAULTS: Settings = Settings {
     cpu_weight: 100,
     cpu_max: None,
     cpu_period: 100_000,
+    io_max: vec![],
 };
 
 #[derive(Clone, Copy)]

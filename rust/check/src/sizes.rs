@@ -41,6 +41,7 @@ fn word(file: &str) -> &'static str {
     match file {
         "cgroup.procs" => "20",
         "cgroup.subtree_control" => "+cpu",
+        "io.max" => "8:0 rbps=2000",
         _ => "2000",
     }
 }

@@ -27,7 +27,7 @@ fn setting<H: Calls>(host: &mut H, group: u64, file: &str, line: &str) -> u32 {
     host.write_setting(0, group, file.as_bytes(), line.as_bytes())
 }
 
-/// Group 1 under the root, all three controllers on in it.
+/// Group 1 under the root, cpu, memory and pids on in it.
 fn one_group<H: Calls>() -> H {
     let mut host = H::fresh(1024);
     assert_eq!(host.make(0, ROOT, 1), 0);

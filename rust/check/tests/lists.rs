@@ -3,18 +3,12 @@
 //! tests. Each of these shows one of the faults too, the one that breaks its rule: a wrong host that
 //! has it does not agree.
 
-use shootspiral_check::Call::*;
-use shootspiral_check::compare::{FILES, first_difference};
-use shootspiral_check::fault::{Fault, Faulty};
-use shootspiral_check::{Call, Linked, agree};
+#[path = "common/shows.rs"]
+mod shows;
 
-/// The proved host agrees on the list, and a host with this fault does not.
-fn shows(fault: &str, machine: u64, calls: &[Call]) {
-    agree::<Linked>(machine, calls);
-    let found = Fault::named(fault).unwrap_or_else(|| panic!("no fault: {fault}"));
-    let shown = first_difference(machine, calls, Faulty::new(machine, found));
-    assert!(shown.is_some(), "not shown: {fault}");
-}
+use shootspiral_check::Call::*;
+use shootspiral_check::compare::FILES;
+use shows::shows;
 
 #[test]
 fn pages_stay_when_a_process_moves() {
@@ -242,11 +236,11 @@ fn a_buffer_of_any_length_has_room() {
 #[test]
 fn names_of_files_are_whole() {
     let tree = || {
-        let line = b"+cpu +memory +pids".to_vec();
+        let line = b"+cpu +io +memory +pids".to_vec();
         let control = WriteSubtreeControl { user: 0, group: 0, line };
         vec![control, Make { user: 0, parent: 0, group: 1 }]
     };
-    for name in &FILES[..10] {
+    for name in &FILES[..11] {
         let shown = String::from_utf8_lossy(name);
         let read = |file| [tree(), vec![Read { group: 1, file, room: 64 }]].concat();
         let longer = [name, b"s".as_slice()].concat();
@@ -254,7 +248,9 @@ fn names_of_files_are_whole() {
         let mut other = name.to_vec();
         *other.last_mut().unwrap() -= 1;
         shows("a read ignores the last byte of a file's name", 64, &read(other.clone()));
-        if [b"memory.max".as_slice(), b"pids.max", b"cpu.weight", b"cpu.max"].contains(name) {
+        if [b"cpu.weight".as_slice(), b"cpu.max", b"io.max", b"memory.max", b"pids.max"]
+            .contains(name)
+        {
             let set = |file| {
                 let line = b"1000".to_vec();
                 [tree(), vec![WriteSetting { user: 0, group: 1, file, line }]].concat()

@@ -28,8 +28,8 @@ both! {
 }
 
 /// Files that are only where their controller is on.
-const RESOURCE_FILES: [&str; 6] =
-    ["memory.current", "pids.current", "cpu.weight", "cpu.max", "memory.max", "pids.max"];
+const RESOURCE_FILES: [&str; 7] =
+    ["memory.current", "pids.current", "cpu.weight", "cpu.max", "io.max", "memory.max", "pids.max"];
 
 fn made<H: Calls>() {
     let mut evening = Evening::<H>::of(8);
@@ -41,18 +41,19 @@ fn made<H: Calls>() {
     evening.belongs(5, "0::/1\n");
     evening.succeed([procs(8, 2, "5"), control(8, 1, ALL), setting(8, 2, "cpu.weight", "6")]);
     evening.succeed([setting(8, 2, "cpu.max", "3000 4000"), setting(8, 2, "memory.max", "16384")]);
-    evening.succeed([setting(8, 2, "pids.max", "2")]);
+    evening.succeed([setting(8, 2, "pids.max", "2"), setting(8, 2, "io.max", "8:16 rbps=5")]);
     evening.granted(charge(5, 2), 3);
     evening.succeed([exit(5), control(8, 2, "+cpu"), hand_over(0, 1, 7)]);
     evening.succeed([remove(7, 2), make(7, 1, 2)]);
     evening.reads(2, "cgroup.subtree_control", "");
     evening.reads(2, "cpu.weight", "100\n");
     evening.reads(2, "cpu.max", "max 100000\n");
+    evening.reads(2, "io.max", "");
     evening.reads(2, "memory.max", "max\n");
     evening.reads(2, "pids.max", "max\n");
     evening.reads(2, "memory.current", "0\n");
     evening.get(34, [release(2, 1)]);
-    evening.reads(1, "cgroup.subtree_control", "cpu memory pids\n");
+    evening.reads(1, "cgroup.subtree_control", "cpu io memory pids\n");
     evening.reads(1, "memory.current", "12288\n");
     evening.get(13, [make(8, 2, 3)]);
     evening.succeed([make(7, 2, 3)]);
@@ -67,7 +68,7 @@ fn handed_on<H: Calls>() {
     evening.succeed([hand_over(0, 1, 8), hand_over(0, 2, 8)]);
     evening.get(13, [make(7, 1, 4), make(7, 2, 4), make(8, 3, 4), procs(8, 2, "5")]);
     evening.succeed([make(7, 3, 4), make(8, 2, 10), make(8, 1, 11)]);
-    evening.reads(1, "cgroup.subtree_control", "cpu memory pids\n");
+    evening.reads(1, "cgroup.subtree_control", "cpu io memory pids\n");
     evening.reads(2, "cpu.weight", "5\n");
     evening.reads(2, "memory.max", "8192\n");
     evening.reads(2, "pids.max", "1\n");
@@ -193,13 +194,17 @@ fn resetting<H: Calls>() {
     evening.succeed([make(0, 0, 1), control(0, 0, ALL), control(0, 1, "+cpu")]);
     evening.succeed([setting(0, 1, "cpu.weight", "5"), setting(0, 1, "cpu.max", "2000 5000")]);
     evening.succeed([setting(0, 1, "memory.max", "4096"), setting(0, 1, "pids.max", "3")]);
-    evening.succeed([control(0, 0, "-cpu +cpu")]);
+    evening.succeed([setting(0, 1, "io.max", "8:16 rbps=5"), control(0, 0, "-cpu +cpu")]);
     evening.reads(1, "cpu.weight", "5\n");
     evening.succeed([control(0, 1, "-cpu")]);
     evening.succeed(["-cpu -memory", "+cpu +memory"].map(|line| control(0, 0, line)));
     evening.reads(1, "cpu.weight", "100\n");
     evening.reads(1, "cpu.max", "max 100000\n");
     evening.reads(1, "memory.max", "max\n");
+    evening.reads(1, "pids.max", "3\n");
+    evening.reads(1, "io.max", "8:16 rbps=5 wbps=max riops=max wiops=max\n");
+    evening.succeed(["-io", "+io"].map(|line| control(0, 0, line)));
+    evening.reads(1, "io.max", "");
     evening.reads(1, "pids.max", "3\n");
 }
 
@@ -272,7 +277,10 @@ fn settings_apart<H: Calls>() {
     evening.reads(1, "cpu.weight", "6\n");
     evening.reads(1, "cpu.max", "3000 5000\n");
     evening.reads(1, "memory.max", "max\n");
+    evening.succeed([setting(0, 1, "io.max", "8:16 rbps=5")]);
+    evening.reads(1, "pids.max", "3\n");
     for group in [2, 3] {
+        evening.reads(group, "io.max", "");
         evening.reads(group, "memory.max", "max\n");
         evening.reads(group, "pids.max", "max\n");
         evening.reads(group, "cpu.weight", "100\n");
@@ -285,7 +293,7 @@ fn whole_replies<H: Calls>() {
     evening.succeed([make(0, 0, 3), make(0, 3, 7), admit(200, 0), admit(3, 0), admit(12, 0)]);
     evening.unread_into(8, 0, "cgroup.procs", 28);
     evening.reads(0, "cgroup.procs", "3\n12\n200\n");
-    evening.reads(0, "cgroup.controllers", "cpu memory pids\n");
+    evening.reads(0, "cgroup.controllers", "cpu io memory pids\n");
     evening.reads(0, "cgroup.subtree_control", "");
     evening.reads(3, "cgroup.controllers", "");
     evening.reads(3, "cgroup.subtree_control", "");
@@ -315,13 +323,14 @@ fn showing<H: Calls>() {
     evening.absent(0, RESOURCE_FILES);
     evening.succeed([procs(0, 1, "6")]);
     evening.reads(1, "cgroup.procs", "6\n");
-    evening.reads(1, "cgroup.controllers", "cpu memory pids\n");
+    evening.reads(1, "cgroup.controllers", "cpu io memory pids\n");
     evening.reads(1, "cgroup.subtree_control", "");
     evening.reads(1, "cgroup.events", "populated 1\n");
     evening.reads(1, "memory.current", "4096\n");
     evening.reads(1, "pids.current", "2\n");
     evening.reads(1, "cpu.weight", "100\n");
     evening.reads(1, "cpu.max", "max 100000\n");
+    evening.reads(1, "io.max", "");
     evening.reads(1, "memory.max", "max\n");
     evening.reads(1, "pids.max", "max\n");
 }
@@ -332,15 +341,15 @@ fn showing_below<H: Calls>() {
     evening.reads(1, "cgroup.procs", "");
     evening.reads(1, "cgroup.subtree_control", "memory\n");
     evening.reads(1, "pids.current", "2\n");
-    evening.reads(0, "cgroup.controllers", "cpu memory pids\n");
-    evening.reads(1, "cgroup.controllers", "cpu memory pids\n");
+    evening.reads(0, "cgroup.controllers", "cpu io memory pids\n");
+    evening.reads(1, "cgroup.controllers", "cpu io memory pids\n");
     evening.reads(2, "cgroup.procs", "5\n6\n");
     evening.reads(2, "cgroup.controllers", "memory\n");
     evening.reads(2, "cgroup.subtree_control", "");
     evening.reads(2, "cgroup.events", "populated 1\n");
     evening.reads(2, "memory.current", "4096\n");
     evening.reads(2, "memory.max", "max\n");
-    evening.absent(2, ["pids.current", "cpu.weight", "cpu.max", "pids.max"]);
+    evening.absent(2, ["pids.current", "cpu.weight", "cpu.max", "io.max", "pids.max"]);
     evening.absent(3, RESOURCE_FILES);
     evening.reads(3, "cgroup.procs", "");
     evening.reads(3, "cgroup.controllers", "");

@@ -86,7 +86,9 @@ fn lines_for_control<H: Calls>() {
         (b"+MEMORY", 22),
         (b"+memory\t-memory", 22),
         (b"+memory\0", 22),
-        (b"+io", 22),
+        (b"+io", 2),
+        (b"-io", 0),
+        (b"+iops", 22),
     ] {
         let mut host = H::fresh(1024);
         host.write_subtree_control(0, 0, b"+memory");

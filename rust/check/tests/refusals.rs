@@ -143,13 +143,15 @@ fn holding<H: Calls>() {
     evening.get(13, [control(8, 1, "-cpu"), control(8, 3, "+cpu")]);
     evening.get(22, [control(7, 1, "-cpu x"), control(7, 1, padded(129, "-cpu"))]);
     evening.get(22, [control(7, 3, "+cpu x"), control(7, 3, padded(129, "+cpu"))]);
-    evening.get(16, ["-cpu", "-memory", "-pids"].map(|line| control(7, 1, line)));
-    evening.get(16, ["+cpu", "+memory", "+pids"].map(|line| control(7, 3, line)));
-    evening.succeed([control(7, 2, "-cpu -pids")]);
+    evening.get(16, ["-cpu", "-io", "-memory", "-pids"].map(|line| control(7, 1, line)));
+    evening.get(16, ["+cpu", "+io", "+memory", "+pids"].map(|line| control(7, 3, line)));
+    evening.succeed([control(7, 2, "-cpu -io -pids")]);
     evening.get(16, [procs(7, 2, "5")]);
     evening.succeed([control(7, 1, "-cpu"), control(7, 2, "-memory +pids")]);
     evening.get(16, [procs(7, 2, "5")]);
-    evening.succeed([control(7, 2, "-pids"), procs(7, 2, "5")]);
+    evening.succeed([control(7, 2, "-pids +io")]);
+    evening.get(16, [procs(7, 2, "5")]);
+    evening.succeed([control(7, 2, "-io"), procs(7, 2, "5")]);
 }
 
 fn setting_forms<H: Calls>() {

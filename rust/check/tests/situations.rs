@@ -1,11 +1,11 @@
 //! The lists of calls come to places that dice seldom reach: numbers that are not live, figures by
-//! the million, many children, every process, bytes beside the digits, long lines.
+//! the million, many children, every process, bytes beside the digits, long lines, many devices.
 
 use std::collections::BTreeMap;
 
 use shootspiral_check::checks::{Check, TABLE, besides, with, write_procs, write_setting};
 use shootspiral_check::generate::Generator;
-use shootspiral_check::model::{CONTROLLERS, CPU, MEMORY, Model, PIDS};
+use shootspiral_check::model::{CONTROLLERS, CPU, IO, MEMORY, Model, PIDS};
 use shootspiral_check::{Call, Calls};
 
 const SEEDS: std::ops::RangeInclusive<u64> = 1..=100;
@@ -17,7 +17,7 @@ const OFTEN: u64 = 2;
 const SELDOM: (&Check, &Check) = (write_procs::MAY_NOT_WRITE, write_procs::HAS_SET);
 
 /// Each place, and how often a run must come to it.
-const PLACES: [(&str, u64); 45] = [
+const PLACES: [(&str, u64); 53] = [
     ("make under a group not live", 20),
     ("remove of a group not live", 20),
     ("hand_over of a group not live", 20),
@@ -41,6 +41,7 @@ const PLACES: [(&str, u64); 45] = [
     ("a release from more than 2^22 own pages", 20),
     ("a group with more than 2^22 pages removed", 2),
     ("cpu leaves ten children with settings", 3),
+    ("io leaves ten children with settings", 3),
     ("memory leaves ten children with settings", 3),
     ("pids leaves ten children with settings", 3),
     ("two words to memory.max", 10),
@@ -63,6 +64,13 @@ const PLACES: [(&str, u64); 45] = [
     ("a long line with a bad word within", 5),
     ("a long line of one word", 5),
     ("a move that the common ancestor's owner alone may make", 20),
+    ("a fifth device", 20),
+    ("a fifth device, accepted as all are max", 5),
+    ("a held device of four", 20),
+    ("room for a fourth device", 20),
+    ("a device's line written back", 10),
+    ("a device's line written back without its newline", 10),
+    ("io.max of 128 bytes", 3),
 ];
 
 #[test]
@@ -157,7 +165,7 @@ fn places(model: &Model, call: &Call, number: u32, told: &[u64]) -> Vec<String> 
                 note(true, &format!("{name} leaves ten children with settings"));
             }
         }
-        Call::WriteSetting { file, line, .. } => {
+        Call::WriteSetting { group, file, line, .. } => {
             let words = line.split(|&byte| byte == b' ').filter(|word| !word.is_empty()).count();
             let file = String::from_utf8_lossy(file);
             let is_more = refused_by == Some(write_setting::MORE_WORDS);
@@ -166,6 +174,12 @@ fn places(model: &Model, call: &Call, number: u32, told: &[u64]) -> Vec<String> 
             let malformed = [write_setting::MALFORMED, write_setting::PERIOD_MALFORMED];
             let is_malformed = refused_by.is_some_and(|check| malformed.contains(&check));
             note(is_malformed && is_beside_digits(line), &format!("{file} with / or :"));
+            if file == "io.max" {
+                note(refused_by == Some(write_setting::FIFTH_DEVICE), "a fifth device");
+                if number == 0 {
+                    places.extend(device_places(model, *group, line));
+                }
+            }
         }
         Call::WriteProcs { user, group, line } => {
             let is_malformed = refused_by == Some(write_procs::NOT_A_NUMBER);
@@ -208,6 +222,25 @@ fn places(model: &Model, call: &Call, number: u32, told: &[u64]) -> Vec<String> 
         _ => {}
     }
     places
+}
+
+/// The places that an accepted line of io.max comes to.
+fn device_places(model: &Model, group: u64, line: &[u8]) -> Vec<String> {
+    let held = model.group(group).map_or(vec![], |kept| kept.settings.io_max.clone());
+    let line = String::from_utf8_lossy(line);
+    let device = line.split_whitespace().next().unwrap_or_default();
+    let is_held = held.iter().any(|held| held.device.to_string() == device);
+    let has_figure = line.split('=').skip(1).any(|value| !value.starts_with("max"));
+    let is_back = |line: &str| held.iter().any(|held| held.line() == line);
+    let places = [
+        (held.len() == 4 && !is_held, "a fifth device, accepted as all are max"),
+        (held.len() == 4 && is_held, "a held device of four"),
+        (held.len() == 3 && !is_held && has_figure, "room for a fourth device"),
+        (is_back(&line), "a device's line written back"),
+        (is_back(&format!("{line}\n")), "a device's line written back without its newline"),
+        (line.len() == 128, "io.max of 128 bytes"),
+    ];
+    places.into_iter().filter(|(holds, _)| *holds).map(|(_, place)| place.into()).collect()
 }
 
 /// Whether the process is at depth 8, and the group at depth 1 to 6.
@@ -254,6 +287,7 @@ fn left_by(model: &Model, group: u64, line: &[u8]) -> Vec<&'static str> {
     let is_set = |k: usize| {
         let with_settings = children.iter().filter(|child| match k {
             CPU => child.settings.cpu_weight != 100,
+            IO => !child.settings.io_max.is_empty(),
             MEMORY => child.settings.memory_max.is_some(),
             _ => child.settings.pids_max.is_some(),
         });
@@ -263,6 +297,6 @@ fn left_by(model: &Model, group: u64, line: &[u8]) -> Vec<&'static str> {
         line.trim_ascii_end() == format!("-{}", CONTROLLERS[k]).as_bytes()
             && model.group(group).is_some_and(|kept| kept.set[k])
     };
-    let left = [CPU, MEMORY, PIDS].into_iter().filter(|&k| leaves(k) && is_set(k));
+    let left = [CPU, IO, MEMORY, PIDS].into_iter().filter(|&k| leaves(k) && is_set(k));
     left.map(|k| CONTROLLERS[k]).collect()
 }

@@ -3,6 +3,7 @@
 use super::Pair;
 use crate::call::Call;
 use crate::calls::Calls;
+use crate::model::EMPTY;
 
 /// The most pages of one release.
 const MOST_PAGES: u64 = 1_048_576;
@@ -78,7 +79,7 @@ impl<H: Calls> Pair<H> {
                 Some(group)
             }
             None => (1..=63)
-                .find(|&group| self.model.group(group).is_some_and(|kept| kept.set == [false; 3])),
+                .find(|&group| self.model.group(group).is_some_and(|kept| kept.set == EMPTY)),
         }
     }
 }

@@ -5,7 +5,7 @@ use crate::compare::FILES;
 use crate::model::{CONTROLLERS, Model, control_word, number, words};
 
 /// The line with every word changed, spaces and the final newline as they were.
-fn with_words(line: &[u8], change: impl Fn(&[u8]) -> Vec<u8>) -> Vec<u8> {
+pub(super) fn with_words(line: &[u8], change: impl Fn(&[u8]) -> Vec<u8>) -> Vec<u8> {
     let body = line.strip_suffix(b"\n").unwrap_or(line);
     let words: Vec<Vec<u8>> = body.split(|&byte| byte == b' ').map(change).collect();
     [&words.join(&b' '), &line[body.len()..]].concat()
@@ -19,17 +19,26 @@ fn number_line(call: &mut Call) -> Option<&mut Vec<u8>> {
     }
 }
 
+/// Changes words that may be numbers. Those of io.max are more than that.
 fn change_numbers(call: &mut Call, change: impl Fn(&[u8]) -> Vec<u8>) {
-    if let Some(line) = number_line(call) {
+    if !matches!(call, Call::WriteSetting { file, .. } if file == b"io.max")
+        && let Some(line) = number_line(call)
+    {
         *line = with_words(line, change);
     }
 }
 
+/// A number stands alone, or beside the colon or the sign of io.max.
 pub(super) fn leading_zeros_refused(_: &Model, call: &mut Call) {
-    change_numbers(call, |word| match word {
-        [b'0', rest @ ..] if !rest.is_empty() => [b"x", rest].concat(),
-        _ => word.to_vec(),
-    });
+    if let Some(line) = number_line(call) {
+        *line = with_words(line, |word| {
+            let mut parts = word.split(|byte| b":=".contains(byte));
+            match parts.any(|part| part.len() > 1 && part[0] == b'0') {
+                true => [b"x", &word[1..]].concat(),
+                false => word.to_vec(),
+            }
+        });
+    }
 }
 
 pub(super) fn numbers_wrap(_: &Model, call: &mut Call) {

@@ -4,7 +4,9 @@ use super::Outcome;
 use crate::call::Call;
 use crate::calls::{Calls, NO_GROUP};
 use crate::checks::{fork, release, write_procs};
-use crate::model::{CPU, DEFAULTS, Limit, MEMORY, Model, Process, control_word, number, words};
+use crate::model::{
+    CPU, DEFAULTS, EMPTY, Limit, MEMORY, Model, Process, control_word, number, words,
+};
 
 /// The process that a line of cgroup.procs names, as it was before the call.
 fn moved<'a>(model: &'a Model, line: &[u8]) -> Option<&'a Process> {
@@ -56,7 +58,7 @@ pub(super) fn ancestor_not_asked(done: &mut Outcome) {
 }
 
 /// The children of a group whose controllers were written, if that changed anything.
-fn children(done: &Outcome) -> Vec<u64> {
+pub(super) fn children(done: &Outcome) -> Vec<u64> {
     match done.call {
         Call::WriteSubtreeControl { group, .. } if done.is_success() => {
             done.before.children(*group).collect()
@@ -79,7 +81,7 @@ pub(super) fn nine_children_reset(done: &mut Outcome) {
 
 fn keep_settings(done: &mut Outcome, child: u64) {
     if let Some(before) = done.before.group(child) {
-        done.after.group_mut(child).settings = before.settings;
+        done.after.group_mut(child).settings = before.settings.clone();
     }
 }
 
@@ -105,7 +107,7 @@ pub(super) fn taken_back_joins(done: &mut Outcome) {
 }
 
 /// The group, file and line of a setting that was written.
-fn setting<'a>(done: &Outcome<'a>) -> Option<(u64, &'a [u8], &'a [u8])> {
+pub(super) fn setting<'a>(done: &Outcome<'a>) -> Option<(u64, &'a [u8], &'a [u8])> {
     match done.call {
         Call::WriteSetting { group, file, line, .. } if done.is_success() => {
             Some((*group, file, line))
@@ -338,7 +340,7 @@ pub(super) fn settings_outlive(done: &mut Outcome) {
     if let Some((group, ..)) = removed(done)
         && let Some(removed) = done.before.group(group)
     {
-        done.removed.insert(group, removed.settings);
+        done.removed.insert(group, removed.settings.clone());
     }
     if let Call::Make { group, .. } = done.call
         && done.is_success()
@@ -352,6 +354,6 @@ pub(super) fn hand_over_empties_set(done: &mut Outcome) {
     if let Call::HandOver { group, .. } = done.call
         && done.is_success()
     {
-        done.after.group_mut(*group).set = [false; 3];
+        done.after.group_mut(*group).set = EMPTY;
     }
 }

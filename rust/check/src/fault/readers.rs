@@ -13,13 +13,13 @@ impl Reading<'_> {
     }
 
     /// Puts a text that is no longer than the right one in its place.
-    fn show(&mut self, text: &str) {
+    pub(super) fn show(&mut self, text: &str) {
         self.reply[..text.len()].copy_from_slice(text.as_bytes());
         self.told[0] = text.len() as u64;
     }
 
     /// The group, if this is the file that is read.
-    fn group_of(&self, name: &[u8]) -> Option<u64> {
+    pub(super) fn group_of(&self, name: &[u8]) -> Option<u64> {
         match self.call {
             Call::Read { group, file, .. } if file == name => Some(*group),
             _ => None,

@@ -1,7 +1,7 @@
 //! The faults, one after the other.
 
 use super::Slip::{Instead, Outcome, Reader, Swapped};
-use super::{Fault, instead, outcomes, readers};
+use super::{Fault, devices, instead, outcomes, readers};
 use crate::checks::{
     charge, fork, make, release, remove, write_procs, write_setting, write_subtree_control,
 };
@@ -96,16 +96,18 @@ pub(super) const FAULTS: &[Fault] = &[
     fault("a longer name reads cgroup.controllers", Instead(instead::longer_name_read::<1>)),
     fault("a longer name reads cgroup.subtree_control", Instead(instead::longer_name_read::<2>)),
     fault("a longer name reads cgroup.events", Instead(instead::longer_name_read::<3>)),
-    fault("a longer name reads memory.current", Instead(instead::longer_name_read::<4>)),
-    fault("a longer name reads memory.max", Instead(instead::longer_name_read::<5>)),
-    fault("a longer name reads pids.current", Instead(instead::longer_name_read::<6>)),
-    fault("a longer name reads pids.max", Instead(instead::longer_name_read::<7>)),
-    fault("a longer name reads cpu.weight", Instead(instead::longer_name_read::<8>)),
-    fault("a longer name reads cpu.max", Instead(instead::longer_name_read::<9>)),
-    fault("a longer name sets memory.max", Instead(instead::longer_name_set::<5>)),
-    fault("a longer name sets pids.max", Instead(instead::longer_name_set::<7>)),
-    fault("a longer name sets cpu.weight", Instead(instead::longer_name_set::<8>)),
-    fault("a longer name sets cpu.max", Instead(instead::longer_name_set::<9>)),
+    fault("a longer name reads cpu.weight", Instead(instead::longer_name_read::<4>)),
+    fault("a longer name reads cpu.max", Instead(instead::longer_name_read::<5>)),
+    fault("a longer name reads io.max", Instead(instead::longer_name_read::<6>)),
+    fault("a longer name reads memory.current", Instead(instead::longer_name_read::<7>)),
+    fault("a longer name reads memory.max", Instead(instead::longer_name_read::<8>)),
+    fault("a longer name reads pids.current", Instead(instead::longer_name_read::<9>)),
+    fault("a longer name reads pids.max", Instead(instead::longer_name_read::<10>)),
+    fault("a longer name sets cpu.weight", Instead(instead::longer_name_set::<4>)),
+    fault("a longer name sets cpu.max", Instead(instead::longer_name_set::<5>)),
+    fault("a longer name sets io.max", Instead(instead::longer_name_set::<6>)),
+    fault("a longer name sets memory.max", Instead(instead::longer_name_set::<8>)),
+    fault("a longer name sets pids.max", Instead(instead::longer_name_set::<10>)),
     // Effects that go too far, or not far enough.
     fault(
         "a controller that leaves resets the first nine children only",
@@ -135,6 +137,34 @@ pub(super) const FAULTS: &[Fault] = &[
         Reader(readers::depth_8_cut_short),
     ),
     fault("a buffer of exactly the length is too short", Reader(readers::exact_is_short)),
+    // Devices.
+    fault("a key of io.max that is not given goes back to \"max\"", Outcome(devices::keys_reset)),
+    fault("a fifth device is taken", Outcome(devices::fifth_taken)),
+    fault("a held device is refused where four are held", Outcome(devices::held_is_fifth)),
+    fault("a fifth device is refused though all \"max\"", Outcome(devices::idle_fifth_refused)),
+    fault(
+        "a fifth device is refused though no pair is given",
+        Outcome(devices::bare_fifth_refused),
+    ),
+    fault("no pair clears the device", Outcome(devices::bare_device_cleared)),
+    fault("a device all \"max\" is still shown", Outcome(devices::idle_kept)),
+    fault(
+        "a pair of io.max stays though a later one is out of range",
+        Outcome(devices::half_written),
+    ),
+    fault("io.max outlives io", Outcome(devices::devices_outlive_io)),
+    fault("io.max keeps its figures in 32 bits", Outcome(devices::values_in_32_bits)),
+    fault("devices are shown in the order in which they came", Reader(devices::as_they_came)),
+    fault("devices are shown by minor before major", Reader(devices::by_minor)),
+    fault("riops and wiops are shown for each other", Reader(devices::iops_swapped)),
+    fault("of a key given twice the last counts", Instead(devices::last_key_counts)),
+    fault("a value of io.max ends at a second \"=\"", Instead(devices::second_value_ignored)),
+    fault("a longer key is taken for one of the four", Instead(devices::longer_key)),
+    fault("a second device in a line is ignored", Instead(devices::second_device_ignored)),
+    fault("a device's numbers are kept in 8 bits", Instead(devices::device_in_8_bits)),
+    fault("a value of io.max wraps at 64 bits", Instead(devices::value_wraps)),
+    fault("\"-io\" is a bad word", Instead(devices::minus_io_refused)),
+    fault("the question takes \"+io\" for a bad word", Instead(devices::plus_io_bad)),
     // Two checks in the wrong order.
     fault(
         "remove asks for processes before the user",
@@ -155,6 +185,22 @@ pub(super) const FAULTS: &[Fault] = &[
     fault(
         "cpu.max asks for the range before it reads the period",
         Swapped(write_setting::PERIOD_MALFORMED, write_setting::RANGE),
+    ),
+    fault(
+        "io.max asks for the device's range before it reads the pairs",
+        Swapped(write_setting::BAD_PAIR, write_setting::RANGE),
+    ),
+    fault(
+        "io.max asks for the range before a key given twice",
+        Swapped(write_setting::KEY_TWICE, write_setting::VALUE_RANGE),
+    ),
+    fault(
+        "io.max asks for room before the device's range",
+        Swapped(write_setting::RANGE, write_setting::FIFTH_DEVICE),
+    ),
+    fault(
+        "io.max asks for room before the range of a value",
+        Swapped(write_setting::VALUE_RANGE, write_setting::FIFTH_DEVICE),
     ),
     fault("fork asks for room before 17", Swapped(fork::NEW_IS_LIVE, fork::PIDS_LIMIT)),
     fault("charge asks for pages before the process", Swapped(charge::NOT_LIVE, charge::NO_PAGES)),

@@ -3,7 +3,7 @@
 use super::Generator;
 use crate::call::Call;
 use crate::compare::FILES;
-use crate::model::{CPU, MEMORY, Model, PIDS};
+use crate::model::{CPU, IO, MEMORY, Model, PIDS};
 
 /// Numbers at the edges of the ranges of groups and processes, and of the widths of machine words.
 const EDGES: [u64; 22] = [
@@ -50,7 +50,11 @@ pub(super) const PAGE_EDGES: [u64; 13] = [
 /// Distances at which a careless index or a narrow word would take one number for another.
 const ALIASES: [u64; 6] = [64, 256, 257, 1 << 32, 1 << 40, 1 << 63];
 
-pub(super) const SETTINGS: [&[u8]; 4] = [b"memory.max", b"pids.max", b"cpu.weight", b"cpu.max"];
+/// The settings that take figures.
+pub(super) const FIGURES: [&[u8]; 4] = [b"cpu.weight", b"cpu.max", b"memory.max", b"pids.max"];
+
+pub(super) const SETTINGS: [&[u8]; 5] =
+    [b"cpu.weight", b"cpu.max", b"io.max", b"memory.max", b"pids.max"];
 
 const ODD_FILES: [&[u8]; 12] = [
     b"",
@@ -61,7 +65,7 @@ const ODD_FILES: [&[u8]; 12] = [
     b"Memory.max",
     b"memory.peak",
     b"cpu.max ",
-    b"io.max",
+    b"io.weight",
     b"cgroup",
     b"\xff\xfe",
     b"pids.max.pids.max.pids.max.pids.max.pids.max.pids.max.pids.max.pids.max.pids.max.pids.max",
@@ -216,6 +220,7 @@ impl Generator {
         }
         let file = self.random.pick(&SETTINGS);
         let controller = match file {
+            b"io.max" => IO,
             b"memory.max" => MEMORY,
             b"pids.max" => PIDS,
             _ => CPU,

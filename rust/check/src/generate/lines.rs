@@ -21,7 +21,7 @@ const BAD_WORDS: [&[u8]; 20] = [
     b"+cpus",
     b"+cp",
     b"+memory.max",
-    b"+io",
+    b"+i",
     b"-pid",
     b"\t+cpu",
     b"+cpu\t-cpu",
@@ -71,6 +71,9 @@ impl Generator {
         if self.random.percent(4) {
             let line = self.bad_number();
             return self.dressed(line);
+        }
+        if file == b"io.max" {
+            return self.device_line(model, group);
         }
         let live = model.group(group).is_some();
         let value: Option<u128> = match file {
@@ -148,7 +151,7 @@ impl Generator {
 
     /// A number in decimal, leading zeros now and then, up to the longest line and past it. Now and
     /// then another number that a narrow word would take for it.
-    fn number_word(&mut self, value: u128) -> Vec<u8> {
+    pub(super) fn number_word(&mut self, value: u128) -> Vec<u8> {
         if !self.random.percent(self.taste.odd_lines) {
             return value.to_string().into_bytes();
         }
@@ -164,7 +167,7 @@ impl Generator {
     }
 
     /// A number of many digits, or at an edge of a machine word.
-    fn wide_number(&mut self) -> u128 {
+    pub(super) fn wide_number(&mut self) -> u128 {
         self.random.pick(&[
             (1 << 31) - 1,
             (1 << 32) - 1,
@@ -219,7 +222,7 @@ impl Generator {
     }
 
     /// The line as it is, or with spaces, newlines, an odd byte, or cut and drawn to a length.
-    fn dressed(&mut self, mut line: Vec<u8>) -> Vec<u8> {
+    pub(super) fn dressed(&mut self, mut line: Vec<u8>) -> Vec<u8> {
         if !self.random.percent(self.taste.odd_lines) {
             if self.random.percent(40) {
                 line.push(b'\n');

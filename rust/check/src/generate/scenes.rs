@@ -3,13 +3,14 @@
 
 use super::Generator;
 use crate::call::Call;
-use crate::model::{CONTROLLERS, Model};
+use crate::model::{CONTROLLERS, EMPTY, Model};
 
 mod absent;
 mod bounds;
 mod children;
 mod controllers;
 mod cross;
+mod devices;
 mod limits;
 mod odd_bytes;
 mod owners;
@@ -20,7 +21,7 @@ mod stage;
 mod trees;
 
 /// The line that wants every controller.
-const ALL: &str = "+cpu +memory +pids";
+const ALL: &str = "+cpu +io +memory +pids";
 
 type Scene = fn(&mut Generator, &mut Model);
 
@@ -40,7 +41,7 @@ const BY_DICE: [Scene; 11] = [
 ];
 
 /// Scenes that come one after the other.
-const IN_TURN: [Scene; 17] = [
+const IN_TURN: [Scene; 19] = [
     Generator::cross_make,
     Generator::bounds,
     Generator::cross_control,
@@ -48,6 +49,7 @@ const IN_TURN: [Scene; 17] = [
     Generator::cross_births,
     Generator::afterlife,
     Generator::cross_settings,
+    Generator::device_room,
     Generator::hoard,
     Generator::cross_procs,
     Generator::odd_numbers,
@@ -56,6 +58,7 @@ const IN_TURN: [Scene; 17] = [
     Generator::cross_pages,
     Generator::odd_controls,
     Generator::departed,
+    Generator::device_lines,
     Generator::cross_reads,
     Generator::long_lines,
 ];
@@ -68,7 +71,7 @@ impl Generator {
         if seed % 20 == 19 {
             self.full_house(&mut sketch);
         } else if self.random.percent(80) {
-            let words = self.random.pick(&[ALL, "+memory +pids", "+memory", "+pids"]);
+            let words = self.random.pick(&[ALL, "+io +memory +pids", "+memory", "+pids"]);
             self.control(&mut sketch, 0, words);
         }
     }
@@ -123,7 +126,7 @@ impl Generator {
             return;
         }
         for up in sketch.chain(group).into_iter().skip(1).rev() {
-            let set = sketch.group(up).map_or([false; 3], |kept| kept.set);
+            let set = sketch.group(up).map_or(EMPTY, |kept| kept.set);
             let mut controllers = CONTROLLERS.iter().zip(set);
             if controllers.any(|(name, is_in)| words.contains(name) && !is_in) {
                 self.control(sketch, up, words);

@@ -4,7 +4,7 @@ use super::lines::one_number;
 use super::*;
 use crate::checks::{write_procs, write_setting, write_subtree_control};
 
-const ALL: [usize; 3] = [CPU, MEMORY, PIDS];
+const ALL: [usize; 4] = [CPU, IO, MEMORY, PIDS];
 
 // cgroup.procs.
 impl Model {
@@ -117,13 +117,14 @@ impl Settings {
                 self.cpu_max = DEFAULTS.cpu_max;
                 self.cpu_period = DEFAULTS.cpu_period;
             }
+            IO => self.io_max = DEFAULTS.io_max,
             MEMORY => self.memory_max = DEFAULTS.memory_max,
             _ => self.pids_max = DEFAULTS.pids_max,
         }
     }
 }
 
-/// What may be written to a setting.
+/// What may be written to a setting that takes figures, as all do but io.max.
 struct Form {
     controller: usize,
     takes_max: bool,
@@ -142,6 +143,14 @@ fn form(file: &[u8]) -> Option<Form> {
         _ => return None,
     };
     Some(Form { controller, takes_max, range, words })
+}
+
+/// The controller of a setting.
+fn controller_of(file: &[u8]) -> Option<usize> {
+    match file {
+        b"io.max" => Some(IO),
+        _ => form(file).map(|form| form.controller),
+    }
 }
 
 /// What the words of a line say: a figure or no limit, and the period after it.
@@ -173,7 +182,7 @@ impl Form {
     }
 }
 
-// The four settings.
+// The settings.
 impl Model {
     pub(super) fn write_setting_checks(
         &self,
@@ -181,27 +190,37 @@ impl Model {
         group: u64,
         file: &[u8],
         line: &[u8],
-    ) -> [Test; 12] {
+    ) -> [Test; 16] {
+        let controller = controller_of(file);
         let form = form(file);
         let said = form.as_ref().map(|form| form.said(line)).unwrap_or_default();
         let words = words(line).len();
         let is_in_form = |test: &dyn Fn(&Form) -> bool| form.as_ref().is_some_and(test);
+        let device_line = (file == b"io.max").then(|| DeviceLine::of(line));
+        let is_in_line =
+            |test: &dyn Fn(&DeviceLine) -> bool| device_line.as_ref().is_some_and(test);
+        let has_fifth = |line: &DeviceLine| self.group(group).is_some_and(|g| line.is_fifth_of(g));
         [
             (group > LAST_GROUP, write_setting::ABOVE_63),
             (self.group(group).is_none(), write_setting::NOT_LIVE),
-            (form.is_none(), write_setting::NOT_A_SETTING),
-            (is_in_form(&|form| self.is_off(form.controller, group)), write_setting::NOT_ON),
+            (controller.is_none(), write_setting::NOT_A_SETTING),
+            (controller.is_some_and(|k| self.is_off(k, group)), write_setting::NOT_ON),
             (!self.may_write_parent(user, group), write_setting::MAY_NOT_WRITE_PARENT),
             (line.len() > LONGEST_LINE, write_setting::LONG_LINE),
             (words == 0, write_setting::NO_WORD),
             (is_in_form(&|form| words > form.words), write_setting::MORE_WORDS),
-            (said.malformed, write_setting::MALFORMED),
+            (said.malformed || is_in_line(&DeviceLine::is_malformed), write_setting::MALFORMED),
             (said.period_malformed, write_setting::PERIOD_MALFORMED),
+            (is_in_line(&DeviceLine::has_bad_pair), write_setting::BAD_PAIR),
+            (is_in_line(&DeviceLine::has_key_twice), write_setting::KEY_TWICE),
             (
-                is_in_form(&|form| said.figure.is_some_and(|n| !form.range.contains(&n))),
+                is_in_form(&|form| said.figure.is_some_and(|n| !form.range.contains(&n)))
+                    || is_in_line(&DeviceLine::is_device_outside),
                 write_setting::RANGE,
             ),
             (said.period.is_some_and(|n| !PERIOD.contains(&n)), write_setting::PERIOD_RANGE),
+            (is_in_line(&DeviceLine::has_value_outside), write_setting::VALUE_RANGE),
+            (is_in_line(&has_fifth), write_setting::FIFTH_DEVICE),
         ]
     }
 
@@ -213,18 +232,27 @@ impl Model {
         line: &[u8],
     ) -> Verdict {
         decide(&self.write_setting_checks(user, group, file, line))?;
-        let Said { figure, period, .. } = form(file).expect("checked").said(line);
-        let figure = figure.map(|figure| figure as u64);
         let settings = &mut self.group_mut(group).settings;
-        match file {
-            b"memory.max" => settings.memory_max = figure.map(|bytes| bytes.div_ceil(PAGE)),
-            b"pids.max" => settings.pids_max = figure,
-            b"cpu.weight" => settings.cpu_weight = figure.expect("checked"),
-            _ => {
-                settings.cpu_max = figure;
-                settings.cpu_period = period.map_or(settings.cpu_period, |period| period as u64);
-            }
+        match form(file) {
+            Some(form) => settings.write_figure(file, form.said(line)),
+            None => settings.write_device(&DeviceLine::of(line)),
         }
         Ok(())
+    }
+}
+
+impl Settings {
+    /// Does what a line of figures says.
+    fn write_figure(&mut self, file: &[u8], said: Said) {
+        let figure = said.figure.map(|figure| figure as u64);
+        match file {
+            b"memory.max" => self.memory_max = figure.map(|bytes| bytes.div_ceil(PAGE)),
+            b"pids.max" => self.pids_max = figure,
+            b"cpu.weight" => self.cpu_weight = figure.expect("checked"),
+            _ => {
+                self.cpu_max = figure;
+                self.cpu_period = said.period.map_or(self.cpu_period, |period| period as u64);
+            }
+        }
     }
 }

@@ -5,7 +5,7 @@ use super::*;
 impl Model {
     pub fn new(machine: u64) -> Model {
         let root = Group { parent: ROOT, owner: 0, set: EMPTY, own_pages: 0, settings: DEFAULTS };
-        let mut groups = [None; LAST_GROUP as usize + 1];
+        let mut groups = [const { None }; LAST_GROUP as usize + 1];
         groups[ROOT as usize] = Some(root);
         let processes = [None; LAST_PROCESS as usize + 1];
         Model { machine: machine.min(LARGEST_MACHINE), groups, processes }
@@ -95,7 +95,7 @@ impl Model {
         self.group(group).is_some() && !self.is_on(controller, group)
     }
 
-    /// The root has all three, others what is on.
+    /// The root has all four, others what is on.
     pub fn is_available(&self, controller: usize, group: u64) -> bool {
         group == ROOT || self.is_on(controller, group)
     }

@@ -37,9 +37,8 @@ impl Model {
 
     pub(super) fn try_remove(&mut self, user: u32, group: u64) -> Verdict {
         decide(&self.remove_checks(user, group))?;
-        let removed = *self.group_mut(group);
+        let removed = self.groups[group as usize].take().expect("checked");
         self.group_mut(removed.parent).own_pages += removed.own_pages;
-        self.groups[group as usize] = None;
         Ok(())
     }
 

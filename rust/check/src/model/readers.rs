@@ -18,16 +18,18 @@ fn there(file: &[u8]) -> There {
         b"memory.current" | b"memory.max" => There::WhereOn(MEMORY),
         b"pids.current" | b"pids.max" => There::WhereOn(PIDS),
         b"cpu.weight" | b"cpu.max" => There::WhereOn(CPU),
+        b"io.max" => There::WhereOn(IO),
         _ => There::Nowhere,
     }
 }
 
 fn listed(is_listed: impl Fn(usize) -> bool) -> String {
-    let names: Vec<&str> = (0..3).filter(|&k| is_listed(k)).map(|k| CONTROLLERS[k]).collect();
+    let named = CONTROLLERS.into_iter().enumerate().filter(|(k, _)| is_listed(*k));
+    let names: Vec<&str> = named.map(|(_, name)| name).collect();
     if names.is_empty() { String::new() } else { names.join(" ") + "\n" }
 }
 
-fn shown(limit: Limit) -> String {
+pub(super) fn shown(limit: Limit) -> String {
     limit.map_or("max".to_string(), |figure| figure.to_string())
 }
 
@@ -41,7 +43,7 @@ fn deliver(text: &str, reply: &mut [u8], told: &mut [u64; 1]) {
 impl Model {
     /// What a file of a live group holds, or would hold where it is absent.
     fn text(&self, group: u64, file: &[u8]) -> String {
-        let Some(&Group { set, settings, .. }) = self.group(group) else { return String::new() };
+        let Some(Group { set, settings, .. }) = self.group(group) else { return String::new() };
         match file {
             b"cgroup.procs" => self.holds(group).map(|process| format!("{process}\n")).collect(),
             b"cgroup.controllers" => listed(|k| self.is_available(k, group)),
@@ -53,6 +55,7 @@ impl Model {
             b"pids.max" => format!("{}\n", shown(settings.pids_max)),
             b"cpu.weight" => format!("{}\n", settings.cpu_weight),
             b"cpu.max" => format!("{} {}\n", shown(settings.cpu_max), settings.cpu_period),
+            b"io.max" => listed_devices(&settings.io_max),
             _ => String::new(),
         }
     }

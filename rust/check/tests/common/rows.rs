@@ -5,7 +5,7 @@ use shootspiral_check::calls::NO_GROUP;
 use shootspiral_check::{Call, Calls};
 
 /// The line that wants every controller.
-pub const ALL: &str = "+cpu +memory +pids";
+pub const ALL: &str = "+cpu +io +memory +pids";
 
 pub fn make(user: u32, parent: u64, group: u64) -> Call {
     Call::Make { user, parent, group }

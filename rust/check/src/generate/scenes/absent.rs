@@ -57,6 +57,7 @@ impl Generator {
         self.set(sketch, group, "memory.max", 40_960);
         self.set(sketch, group, "pids.max", 2);
         self.set(sketch, group, "cpu.weight", 9);
+        self.set_device(sketch, group, "8:16 riops=5");
         let (file, line) = (b"cpu.max".to_vec(), b"5000 7000".to_vec());
         self.plan(sketch, Call::WriteSetting { user: 0, group, file, line });
         self.control(sketch, group, ALL);
@@ -113,12 +114,16 @@ fn calls_on(group: u64, process: u64, live: u64) -> Vec<Call> {
         Call::WriteProcs { user, group, line: process.to_string().into() },
         Call::WriteProcs { user, group, line: line("x") },
         Call::WriteProcs { user, group, line: line("257") },
+        Call::WriteProcs { user, group, line: line("5 6") },
         Call::WriteSubtreeControl { user, group, line: line("") },
         Call::WriteSubtreeControl { user, group, line: line("+memory") },
         Call::WriteSubtreeControl { user, group, line: line("x") },
         Call::WriteSubtreeControl { user, group, line: vec![b' '; 129] },
         Call::WriteSetting { user, group, file: line("memory.max"), line: line("x") },
         Call::WriteSetting { user, group, file: line("pids.max"), line: vec![b'0'; 129] },
+        Call::WriteSetting { user, group, file: line("cpu.max"), line: line("max x") },
+        Call::WriteSetting { user, group, file: line("cpu.max"), line: line("max 999") },
+        Call::WriteSetting { user, group, file: line("io.max"), line: line("8:16 rbps=0") },
         Call::WriteSetting { user, group, file: line("memory"), line: line("1") },
         Call::Read { group, file: line("memory"), room: 0 },
         Call::Release { group, pages: 1 },

@@ -2,7 +2,7 @@
 //! a word too few or too many, each to a file that takes such lines.
 
 use super::super::Generator;
-use super::super::arguments::SETTINGS;
+use super::super::arguments::FIGURES;
 use super::ALL;
 use super::stage::has_set;
 use crate::call::Call;
@@ -29,7 +29,7 @@ impl Generator {
         let Some(process) = self.free_process(sketch) else { return };
         self.plan(sketch, Call::Admit { process, user: 0 });
         let mut table = vec![];
-        for file in SETTINGS {
+        for file in FIGURES {
             table.extend(setting_lines(file).into_iter().map(|line| (file, line)));
         }
         table.extend(procs_lines(process).into_iter().map(|line| (&b""[..], line)));
@@ -46,7 +46,7 @@ impl Generator {
     /// A group with all controllers on and no set, so that a line alone decides.
     pub(super) fn open_group(&mut self, sketch: &mut Model) -> Option<u64> {
         let is_open =
-            |&group: &u64| (0..3).all(|k| sketch.is_on(k, group)) && !has_set(sketch, group);
+            |&group: &u64| !has_set(sketch, group) && (0..4).all(|k| sketch.is_on(k, group));
         let open = self.random.one_of(sketch.live_groups().filter(is_open));
         open.or_else(|| {
             let group = self.child(sketch, 0, 0)?;
@@ -104,6 +104,7 @@ fn setting_lines(file: &[u8]) -> Vec<String> {
         for word in ["x", "max", "5:", "-1"] {
             lines.extend(["999", "1000", "max"].map(|quota| format!("{quota} {word}")));
         }
+        lines.extend(["max 999 1000", "1000 1000001 x"].map(String::from));
     }
     lines
 }

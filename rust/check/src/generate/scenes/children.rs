@@ -18,7 +18,7 @@ impl Generator {
         for _ in 0..self.random.within(10, 14) {
             children.extend(self.child(sketch, 0, parent));
         }
-        let leaving = CONTROLLERS[self.round() % 3];
+        let leaving = CONTROLLERS[self.round() % CONTROLLERS.len()];
         let other = self.random.pick(&CONTROLLERS);
         let Some(&eldest) = children.first() else { return };
         if other != leaving {
@@ -52,6 +52,7 @@ impl Generator {
                     self.plan(sketch, Call::WriteSetting { user: 0, group, file, line });
                 }
             }
+            "io" => self.set_device(sketch, group, format!("{group}:16 wbps={group}")),
             "memory" => self.set(sketch, group, "memory.max", (64 + group) << 12),
             _ => self.set(sketch, group, "pids.max", 200 + group),
         }

@@ -18,6 +18,7 @@ impl Generator {
             let (file, line) = (b"cpu.max".to_vec(), b"2000 3000".to_vec());
             self.plan(sketch, Call::WriteSetting { user: 0, group, file, line });
         }
+        self.set_device(sketch, group, "8:16 rbps=2097152 wiops=120");
         let name = self.random.pick(&CONTROLLERS);
         if self.random.percent(30) {
             self.control(sketch, group, &format!("+{name}"));
@@ -25,7 +26,7 @@ impl Generator {
         match self.random.below(4) {
             0 => self.control(sketch, parent, &format!("-{name} +{name}")),
             1 => self.control(sketch, parent, &format!("+{name} -{name}")),
-            2 => self.control(sketch, parent, "-cpu -memory -pids"),
+            2 => self.control(sketch, parent, "-cpu -io -memory -pids"),
             _ => self.control(sketch, parent, &format!("-{name}")),
         }
         self.control(sketch, parent, ALL);

@@ -2,14 +2,14 @@
 //! as any other, so that two checks of a call hold at once about as often as one does.
 
 use super::super::Generator;
-use super::super::arguments::SETTINGS;
+use super::super::arguments::FIGURES;
 use super::stage::{has_set, stacked};
 use crate::call::Call;
 use crate::compare::FILES;
 use crate::model::{CONTROLLERS, Model};
 
 /// How many calls of a kind a scene makes.
-const CALLS: usize = 12;
+const CALLS: usize = 14;
 
 impl Generator {
     pub(super) fn cross_make(&mut self, sketch: &mut Model) {
@@ -208,14 +208,14 @@ impl Generator {
             |&k: &u64| sketch.group(group).is_some() && !sketch.is_available(k as usize, group);
         let mut words = vec![];
         for _ in 0..self.random.within(1, 3) {
-            let any = self.random.below(3);
+            let any = self.random.below(4);
             let (sign, controller) = match self.random.below(6) {
                 0 => {
                     words.push(self.bad_control_word());
                     continue;
                 }
-                1 | 2 => ('-', self.random.one_of((0..3).filter(in_a_child)).unwrap_or(any)),
-                3 => ('+', self.random.one_of((0..3).filter(is_missing)).unwrap_or(any)),
+                1 | 2 => ('-', self.random.one_of((0..4).filter(in_a_child)).unwrap_or(any)),
+                3 => ('+', self.random.one_of((0..4).filter(is_missing)).unwrap_or(any)),
                 4 => ('-', any),
                 _ => ('+', any),
             };
@@ -235,13 +235,13 @@ impl Generator {
             let controller = CONTROLLERS.iter().position(|c| Some(c.as_bytes()) == name);
             sketch.group(group).is_some() && controller.is_some_and(|k| sketch.is_on(k, group))
         };
-        let on: Vec<&[u8]> = SETTINGS.into_iter().filter(is_on).collect();
+        let on: Vec<&[u8]> = FIGURES.into_iter().filter(is_on).collect();
         match self.random.below(9) {
             0 => self.random.pick(&FILES).to_vec(),
             1 => self.odd_file(),
             2 => b"cpu.max".to_vec(),
-            3..5 => self.random.pick(&SETTINGS).to_vec(),
-            _ if on.is_empty() => self.random.pick(&SETTINGS).to_vec(),
+            3..5 => self.random.pick(&FIGURES).to_vec(),
+            _ if on.is_empty() => self.random.pick(&FIGURES).to_vec(),
             _ => self.random.pick(&on).to_vec(),
         }
     }

@@ -2,7 +2,7 @@
 //! nothing else is in its way.
 
 use super::super::Generator;
-use super::super::arguments::SETTINGS;
+use super::super::arguments::FIGURES;
 use crate::call::Call;
 use crate::model::{CONTROLLERS, Model};
 
@@ -13,7 +13,8 @@ const NEIGHBOURS: [u8; 20] = [
 ];
 
 impl Generator {
-    /// Numbers with such a byte in the place of a digit or beside it, and "max" by one letter.
+    /// Numbers with such a byte in the place of a digit or beside it; "max" and a line of io.max wrong
+    /// by one letter.
     pub(super) fn odd_numbers(&mut self, sketch: &mut Model) {
         let Some(group) = self.open_group(sketch) else { return };
         let Some(process) = self.free_process(sketch) else { return };
@@ -23,16 +24,18 @@ impl Generator {
                 let line = self.number_with(process.to_string().as_bytes(), byte);
                 Call::WriteProcs { user: 0, group, line }
             } else {
-                let file = self.random.pick(&SETTINGS).to_vec();
+                let file = self.random.pick(&FIGURES).to_vec();
                 let line = self.number_with(b"2345", byte);
                 Call::WriteSetting { user: 0, group, file, line }
             };
             self.plan(sketch, call);
         }
         for _ in 0..6 {
-            let file = self.random.pick(&SETTINGS);
+            let file = self.random.pick(&FIGURES);
             let line = self.off_by_one(b"max");
             self.plan(sketch, Call::WriteSetting { user: 0, group, file: file.to_vec(), line });
+            let line = self.off_by_one(b"8:16 wiops=5");
+            self.set_device(sketch, group, line);
         }
     }
 

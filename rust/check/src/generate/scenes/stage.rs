@@ -18,7 +18,7 @@ impl Generator {
         let Some(top) = self.child(sketch, 0, 0) else { return };
         self.reach(sketch, top, ALL);
         self.plan(sketch, Call::HandOver { user: 0, group: top, owner });
-        let name = self.random.pick(&["+cpu", "+memory", "+pids"]);
+        let name = self.random.pick(&["+cpu", "+io", "+memory", "+pids"]);
         let mut group = top;
         for _ in 0..3 {
             self.control(sketch, group, name);

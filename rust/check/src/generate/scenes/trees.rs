@@ -9,14 +9,15 @@ impl Generator {
     /// a process at the bottom; then a limit above it, more often than not.
     pub(super) fn ladder(&mut self, sketch: &mut Model) {
         let mut bottom = if self.random.percent(50) { 0 } else { self.live_group(sketch) };
-        let words = self.random.pick(&["+memory +pids +cpu", "+memory", "+pids", "+cpu +memory"]);
+        let words =
+            self.random.pick(&["+memory +pids +cpu", "+memory", "+io +pids", "+cpu +memory"]);
         self.reach(sketch, bottom, words);
         for _ in 0..10 {
-            self.control(sketch, bottom, words);
             let Some(child) = self.child(sketch, 0, bottom) else { break };
             if sketch.group(child).is_none() {
                 break;
             }
+            self.control(sketch, bottom, words);
             bottom = child;
         }
         let user = self.user();
