@@ -3,8 +3,8 @@
  * and 0xff bytes, buffers too short. Each must answer document 01's number and touch nothing: the
  * words of the tree, the reply buffer, and the memory around tree, buffer and told stay as they were.
  *
- *     0  1024 pages; cpu, memory and pids in its set; process 20 of user 2000
- *     |- 1   of user 1000, 2 own pages, memory.max 2 pages, pids.max 1; process 10 of user 1000
+ *     0  1024 pages; cpu, io, memory and pids in its set; process 20 of user 2000
+ *     |- 1   of user 1000, 2 own pages, memory.max 2 pages, pids.max 1, io.max full; process 10 of user 1000
  *     |- 2   of user 1000, memory in its set
  *     |  `- 3
  *     |- 4   of user 1000
@@ -35,10 +35,15 @@ struct bytes {
 
 /* Lines of a given length: so many zeros, or spaces, and then a text. */
 #define ZEROS_10 "0000000000"
-#define ZEROS_120 ZEROS_10 ZEROS_10 ZEROS_10 ZEROS_10 ZEROS_10 ZEROS_10 ZEROS_10 ZEROS_10 ZEROS_10 ZEROS_10 ZEROS_10 ZEROS_10
+#define ZEROS_110 ZEROS_10 ZEROS_10 ZEROS_10 ZEROS_10 ZEROS_10 ZEROS_10 ZEROS_10 ZEROS_10 ZEROS_10 ZEROS_10 ZEROS_10
+#define ZEROS_120 ZEROS_110 ZEROS_10
 #define SPACES_10 "          "
 #define SPACES_120 \
 	SPACES_10 SPACES_10 SPACES_10 SPACES_10 SPACES_10 SPACES_10 SPACES_10 SPACES_10 SPACES_10 SPACES_10 SPACES_10 SPACES_10
+
+/* A device's line in io.max, as long as can be: 98 bytes. */
+#define DEVICE(number) number " rbps=4503599627370496 wbps=4503599627370496 riops=4503599627370496 wiops=4503599627370496\n"
+#define FOUR_DEVICES DEVICE("255:252") DEVICE("255:253") DEVICE("255:254") DEVICE("255:255")
 
 enum call { MAKE, REMOVE, HAND_OVER, PROCS, CONTROL, SETTING, ADMIT, FORK, EXIT, CHARGE, RELEASE, READ, MEMBERSHIP, WORD };
 
@@ -201,18 +206,24 @@ static const struct row same[] = {
 	CONTROL(0, 0, T("-cpu\0"), 22),
 	CONTROL(0, 0, T("\0"), 22),
 	CONTROL(0, 0, T("-cpu \xff"), 22),
+	CONTROL(0, 0, T("-i"), 22),
+	CONTROL(0, 0, T("-io\0"), 22),
+	CONTROL(0, 0, T("-io.max"), 22),
 	CONTROL(0, 0, T(SPACES_120 "     -cpu"), 22),
 	CONTROL(0, 0, T(SPACES_120 "    -cpu\n"), 22),
 	CONTROL(0, 0, T(SPACES_120 SPACES_120 SPACES_10 SPACES_10 SPACES_10 SPACES_10 SPACES_10 "      -cpu"), 22),
 	CONTROL(0, 3, T("+cpu x"), 22),
 	CONTROL(0, 3, T("+cpu"), 2),
 	CONTROL(0, 3, T("+memory +pids"), 2),
+	CONTROL(0, 3, T("+io"), 2),
 	CONTROL(0, 0, T("-memory"), 16),
 	CONTROL(0, 1, T("+memory"), 16),
+	CONTROL(0, 1, T("+io"), 16),
 	CONTROL(0, 0, NO_BYTE_OF("-cpu"), 0),
 	CONTROL(0, 0, T("\n"), 0),
 	CONTROL(0, 0, T(SPACES_120 "        "), 0),
 	CONTROL(0, 0, T(SPACES_120 "   +cpu\n"), 0),
+	CONTROL(0, 0, T("-io +io"), 0),
 
 	/* user, group, file, line: number */
 	SETTING(0, 64, T("cpu.weight"), T("1"), 22),
@@ -231,10 +242,16 @@ static const struct row same[] = {
 	SETTING(0, 4, T("\xff"), T("1"), 2),
 	SETTING(0, 4, T("memory.current"), T("1"), 2),
 	SETTING(0, 4, T(ZEROS_120 ZEROS_120 ZEROS_10 ZEROS_10 ZEROS_10 ZEROS_10 ZEROS_10 ZEROS_10), T("1"), 2),
+	SETTING(0, 4, T("io.ma"), T("8:16 rbps=1"), 2),
+	SETTING(0, 4, T("io.max\0"), T("8:16 rbps=1"), 2),
 	SETTING(0, 0, T("cpu.weight"), T("1"), 2),
+	SETTING(0, 0, T("io.max"), T("8:16 rbps=1"), 2),
 	SETTING(0, 3, T("cpu.weight"), T("1"), 2),
+	SETTING(0, 3, T("io.max"), NO_BYTE_OF("8:16"), 2),
 	SETTING(NOBODY, 4, T("cpu.weight"), T("1"), 13),
 	SETTING(1000, 4, T("cpu.weight"), T("x"), 13),
+	SETTING(1000, 4, T("io.max"), T("8:16 rbps=x"), 13),
+	SETTING(1000, 1, T("io.max"), T("8:16 rbps=1"), 13),
 	SETTING(0, 4, T("memory.max"), NO_BYTE_OF("1"), 22),
 	SETTING(0, 4, T("pids.max"), NO_BYTE_OF("1"), 22),
 	SETTING(0, 4, T("cpu.weight"), NO_BYTE_OF("1"), 22),
@@ -262,6 +279,78 @@ static const struct row same[] = {
 	SETTING(0, 4, T("cpu.max"), T("1000000001"), 34),
 	SETTING(0, 4, T("cpu.max"), T("1000 999"), 34),
 	SETTING(0, 4, T("cpu.max"), T("1000 1000001"), 34),
+
+	/* A device in io.max, and its pairs; group 1 has no room for another device. */
+	SETTING(0, 4, T("io.max"), NO_BYTE_OF("8:16"), 22),
+	SETTING(0, 4, T("io.max"), T("\n"), 22),
+	SETTING(0, 4, T("io.max"), T(" "), 22),
+	SETTING(0, 4, T("io.max"), T("\0"), 22),
+	SETTING(0, 4, T("io.max"), T("\xff"), 22),
+	SETTING(0, 4, T("io.max"), T("max"), 22),
+	SETTING(0, 4, T("io.max"), T("8"), 22),
+	SETTING(0, 4, T("io.max"), T(":"), 22),
+	SETTING(0, 4, T("io.max"), T("8:"), 22),
+	SETTING(0, 4, T("io.max"), T(":16"), 22),
+	SETTING(0, 4, T("io.max"), T("8 :16"), 22),
+	SETTING(0, 4, T("io.max"), T("8:16:0 rbps=1"), 22),
+	SETTING(0, 4, T("io.max"), T("8:-16 rbps=1"), 22),
+	SETTING(0, 4, T("io.max"), T("8:max"), 22),
+	SETTING(0, 4, T("io.max"), T("8:16\0"), 22),
+	SETTING(0, 4, T("io.max"), T("8:16\0rbps=1"), 22),
+	SETTING(0, 4, T("io.max"), T("rbps=1"), 22),
+	SETTING(0, 4, T("io.max"), T("rbps=1 8:16"), 22),
+	SETTING(0, 4, T("io.max"), T("8:16 0:0 rbps=1"), 22),
+	SETTING(0, 4, T("io.max"), T("8:16 rbps=1\n0:0 rbps=1\n"), 22),
+	SETTING(0, 4, T("io.max"), T("8:16 rbps=1\n\n"), 22),
+	SETTING(0, 4, T("io.max"), T("8:16 1"), 22),
+	SETTING(0, 4, T("io.max"), T("8:16 ="), 22),
+	SETTING(0, 4, T("io.max"), T("8:16 =1"), 22),
+	SETTING(0, 4, T("io.max"), T("8:16 rbps"), 22),
+	SETTING(0, 4, T("io.max"), T("8:16 rbps="), 22),
+	SETTING(0, 4, T("io.max"), T("8:16 rbps= 1"), 22),
+	SETTING(0, 4, T("io.max"), T("8:16 rbps =1"), 22),
+	SETTING(0, 4, T("io.max"), T("8:16 rbps==1"), 22),
+	SETTING(0, 4, T("io.max"), T("8:16 rbps=1=1"), 22),
+	SETTING(0, 4, T("io.max"), T("8:16 rbps=-1"), 22),
+	SETTING(0, 4, T("io.max"), T("8:16 rbps=MAX"), 22),
+	SETTING(0, 4, T("io.max"), T("8:16 rbps=maxi"), 22),
+	SETTING(0, 4, T("io.max"), T("8:16 Rbps=1"), 22),
+	SETTING(0, 4, T("io.max"), T("8:16 bps=1"), 22),
+	SETTING(0, 4, T("io.max"), T("8:16 rbps\0=1"), 22),
+	SETTING(0, 4, T("io.max"), T("8:16 rbps=1\0"), 22),
+	SETTING(0, 4, T("io.max"), T("8:16 rbps=1 \xff"), 22),
+	SETTING(0, 4, T("io.max"), T("8:16 rbps=1 rbps=1"), 22),
+	SETTING(0, 4, T("io.max"), T("8:16 wiops=max riops=1 wiops=max"), 22),
+	SETTING(0, 4, T("io.max"), T("8:16 rbps=0 rbps=1"), 22),
+	SETTING(0, 4, T("io.max"), T("256:0 rbps=x"), 22),
+	SETTING(0, 1, T("io.max"), T("8:16 rbps=0 wbps"), 22),
+	SETTING(0, 4, T("io.max"), T("8:16 rbps=" ZEROS_110 "000000001"), 22),
+	SETTING(0, 4, T("io.max"), T("8:16 rbps=" ZEROS_110 "00000001\n"), 22),
+	SETTING(0, 4, T("io.max"), T(SPACES_120 "     8:16"), 22),
+	SETTING(0, 4, T("io.max"), T(FOUR_DEVICES), 22),
+	SETTING(0, 4, T("io.max"), T("256:0"), 34),
+	SETTING(0, 4, T("io.max"), T("0:256"), 34),
+	SETTING(0, 4, T("io.max"), T("264:16 rbps=1"), 34),
+	SETTING(0, 4, T("io.max"), T("8:4294967312 rbps=1"), 34),
+	SETTING(0, 4, T("io.max"), T("18446744073709551624:16 rbps=1"), 34),
+	SETTING(0, 4, T("io.max"), T(ZEROS_120 "256:0"), 34),
+	SETTING(0, 4, T("io.max"), T("8:16 rbps=0"), 34),
+	SETTING(0, 4, T("io.max"), T("8:16 wbps=4503599627370497"), 34),
+	SETTING(0, 4, T("io.max"), T("8:16 riops=18446744073709551617"), 34),
+	SETTING(0, 4, T("io.max"), T("8:16 rbps=1 wbps=max wiops=0\n"), 34),
+	SETTING(0, 4, T("io.max"), T("8:16 rbps=" ZEROS_110 "00000000"), 34),
+	SETTING(0, 4, T("io.max"), T("8:16 rbps=9" ZEROS_110 "0000001"), 34),
+	SETTING(0, 1, T("io.max"), T("256:255"), 34),
+	SETTING(0, 1, T("io.max"), T("8:16 rbps=0"), 34),
+	SETTING(0, 1, T("io.max"), T("0:0 rbps=1"), 28),
+	SETTING(0, 1, T("io.max"), T("8:16 rbps=max wiops=120\n"), 28),
+	SETTING(0, 1, T("io.max"), T("255:251 wbps=4503599627370496"), 28),
+	SETTING(0, 1, T("io.max"), T("0:0"), 0),
+	SETTING(0, 1, T("io.max"), T("0:0 wiops=max riops=max wbps=max rbps=max"), 0),
+	SETTING(0, 1, T("io.max"), T("255:255"), 0),
+	SETTING(0, 1, T("io.max"), T(DEVICE("255:255")), 0),
+	SETTING(0, 4, T("io.max"), T("8:16\n"), 0),
+	SETTING(0, 4, T("io.max"), T("8:16 rbps=max"), 0),
 
 	/* process, user: number */
 	ADMIT(0, 0, 22),
@@ -343,13 +432,22 @@ static const struct row same[] = {
 	READ(0, T(ZEROS_120 ZEROS_120 ZEROS_10 ZEROS_10 ZEROS_10 ZEROS_10 ZEROS_10 ZEROS_10), 0, 2, T("")),
 	READ(0, T("cgroup.events"), 0, 2, T("")),
 	READ(0, T("memory.max"), 916, 2, T("")),
+	READ(0, T("io.max"), 916, 2, T("")),
 	READ(3, T("cpu.max"), 916, 2, T("")),
+	READ(3, T("io.max"), 0, 2, T("")),
+	READ(1, T("io.max\0"), 916, 2, T("")),
 	READ(0, T("cgroup.procs"), 0, 28, T("")),
 	READ(0, T("cgroup.procs"), 2, 28, T("")),
-	READ(0, T("cgroup.controllers"), 15, 28, T("")),
+	READ(0, T("cgroup.controllers"), 18, 28, T("")),
 	READ(4, T("cpu.max"), 0, 28, T("")),
 	READ(4, T("cpu.max"), 10, 28, T("")),
-	READ(0, T("cgroup.controllers"), 16, 0, T("cpu memory pids\n")),
+	READ(1, T("io.max"), 0, 28, T("")),
+	READ(1, T("io.max"), 391, 28, T("")),
+	READ(1, T("io.max"), 392, 0, T(FOUR_DEVICES)),
+	READ(1, T("io.max"), 916, 0, T(FOUR_DEVICES)),
+	READ(4, T("io.max"), 0, 0, T("")),
+	READ(4, T("io.max"), 916, 0, T("")),
+	READ(0, T("cgroup.controllers"), 19, 0, T("cpu io memory pids\n")),
 	READ(0, T("cgroup.procs"), 916, 0, T("20\n")),
 	READ(1, T("cgroup.subtree_control"), 0, 0, T("")),
 	READ(1, T("cgroup.subtree_control"), 916, 0, T("")),
@@ -373,6 +471,8 @@ static const struct row same[] = {
 	WORD(T("\n"), 0, 0),
 	WORD(T("+cpu \n"), 5, 0),
 	WORD(T("+cpu -"), 5, 1),
+	WORD(T("+io -io +i"), 8, 2),
+	WORD(T("+io.max"), 0, 7),
 	WORD(T("+cpu\0"), 0, 5),
 	WORD(T("+cpu \0"), 5, 1),
 	WORD(T("\xff\n"), 0, 1),
@@ -391,8 +491,15 @@ static const struct row changing[] = {
 	PROCS(0, 4, T(ZEROS_120 "0000010"), 0),
 	PROCS(0, 4, T(ZEROS_120 "0000010\n"), 0),
 	CONTROL(0, 0, T(SPACES_120 "    -cpu"), 0),
+	CONTROL(0, 0, T("-io"), 0),
+	CONTROL(0, 2, T("+io\n"), 0),
 	SETTING(0, 4, T("cpu.weight"), T(ZEROS_120 "0000001\n"), 0),
 	SETTING(0, 4, T("memory.max"), T("4503599627370496"), 0),
+	SETTING(0, 4, T("io.max"), T("8:16 rbps=" ZEROS_110 "00000001"), 0),
+	SETTING(0, 4, T("io.max"), T("8:16 rbps=" ZEROS_110 "0000001\n"), 0),
+	SETTING(0, 4, T("io.max"), T("  255:0  wiops=1 riops=max wbps=4503599627370496 \n"), 0),
+	SETTING(0, 1, T("io.max"), T("0255:00252 wiops=1"), 0),
+	SETTING(0, 1, T("io.max"), T("255:254 rbps=max wbps=max riops=max wiops=max"), 0),
 	ADMIT(256, NOBODY, 0),
 	ADMIT(1, 0, 0),
 	FORK(30, 256, 0, NONE, 9),
@@ -417,7 +524,8 @@ static int calls, failures;
 
 static void make_scene(void)
 {
-	const uint8_t *all = (const uint8_t *)"+cpu +memory +pids";
+	static const char *const devices[] = { DEVICE("255:254"), DEVICE("255:252"), DEVICE("255:255"), DEVICE("255:253") };
+	const uint8_t *all = (const uint8_t *)"+cpu +io +memory +pids";
 	uint64_t *tree = scene.tree;
 
 	memset(&scene, 0xa5, sizeof scene);
@@ -441,6 +549,8 @@ static void make_scene(void)
 	ss_write_procs(tree, ss_u(0), ss_g(28), (const uint8_t *)"30", 2);
 	ss_write_setting(tree, ss_u(0), ss_g(1), (const uint8_t *)"memory.max", 10, (const uint8_t *)"8192", 4);
 	ss_write_setting(tree, ss_u(0), ss_g(1), (const uint8_t *)"pids.max", 8, (const uint8_t *)"1", 1);
+	for (size_t i = 0; i < SS_MAX_DEVICES; i++)
+		ss_write_setting(tree, ss_u(0), ss_g(1), (const uint8_t *)"io.max", 6, (const uint8_t *)devices[i], strlen(devices[i]));
 	ss_charge(tree, ss_p(10), 2, scene.told);
 	memset(scene.told, 0xa5, sizeof scene.told);
 }

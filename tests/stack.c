@@ -95,23 +95,28 @@ static const uint64_t rooms[] = { 0, 4, 27, SS_LONGEST_REPLY };
 
 static const char *const files[] = {
 	"cgroup.procs", "cgroup.controllers", "cgroup.subtree_control", "cgroup.events", "memory.current", "memory.max",
-	"pids.current", "pids.max", "cpu.weight", "cpu.max", "cpu", "",
+	"pids.current", "pids.max", "cpu.weight", "cpu.max", "io.max", "cpu", "",
 };
 
 #define TEN(text) text text text text text text text text text text
+#define DEVICE(number) number " rbps=4503599627370496 wbps=4503599627370496 riops=4503599627370496 wiops=4503599627370496\n"
+#define NO_LIMIT(number) number " rbps=max wbps=max riops=max wiops=max"
 
 static const char *const lines[] = {
 	"", "\n", "x", "0", "1", "10\n", "255", "256", "257", "max", "-1",
 	"4503599627370496", "4503599627370497", "18446744073709551616", "4194304", "10000", "1000000000",
 	"max 1000000", "1000000000 1000000", "1000 999", "1000 1000 1000", "1 x",
-	"+cpu", "+cpu +memory +pids", "-cpu -memory -pids", "-pids +cpu\n", "+cpu +disk", "-cpu +",
+	"0:0", "256:0", "8:16 rbps=0", "8:16 rbps=1 rbps=1", "8:16 rbps", "8:16 9:0",
+	"0:0 wiops=120", "128:0 rbps=2097152 riops=max\n", DEVICE("255:253"), NO_LIMIT("255:252"), NO_LIMIT("0:0"),
+	"+cpu", "+io", "+cpu +io +memory +pids", "-cpu -io -memory -pids", "-pids +cpu\n", "+cpu +disk", "-cpu +",
 	TEN("            ") "    +cpu",        /* 128 bytes */
 	TEN("            ") "     +cpu",       /* 129 */
 	TEN("+cpu -cpu +c") "pu +cpu",         /* many words, one of them bad */
 	TEN("+pids -pids ") "-memory",         /* many words, all of them good */
 	TEN("000000000000") "00000001",        /* 128 digits */
+	"8:16 rbps=" TEN("00000000000") "00000001",
 	TEN("999999999999") "99999999",
-	TEN("+memory -memory +pids -pids +cpu -cpu "),
+	TEN("+memory -memory +pids -pids +cpu -cpu +io -io "),
 };
 
 static uint64_t trees[5][SS_TREE_WORDS];
@@ -205,12 +210,22 @@ static void must(uint32_t answer)
 	}
 }
 
+/* The last devices that there can be, the last of them first. */
+static void limit_devices(uint64_t *t, ss_group group, size_t count)
+{
+	static const char *const last[SS_MAX_DEVICES] = { DEVICE("255:255"), DEVICE("255:254"), DEVICE("255:253"), DEVICE("255:252") };
+
+	for (size_t i = 0; i < count; i++)
+		must(ss_write_setting(t, ss_u(0), group, BYTES("io.max"), BYTES(last[i])));
+}
+
 static void set_all(uint64_t *t, ss_group group, const char *memory, const char *pids)
 {
 	must(ss_write_setting(t, ss_u(0), group, BYTES("memory.max"), BYTES(memory)));
 	must(ss_write_setting(t, ss_u(0), group, BYTES("pids.max"), BYTES(pids)));
 	must(ss_write_setting(t, ss_u(0), group, BYTES("cpu.weight"), BYTES("10000")));
 	must(ss_write_setting(t, ss_u(0), group, BYTES("cpu.max"), BYTES("1000000000 1000000")));
+	limit_devices(t, group, SS_MAX_DEVICES);
 }
 
 /*
@@ -224,7 +239,7 @@ static void make_deep(uint64_t *t, uint64_t first, int step, uint64_t count, uin
 
 	ss_fresh(t, SS_MAX_MACHINE_PAGES);
 	for (int depth = 1; depth <= SS_MAX_DEPTH; depth++) {
-		must(ss_write_subtree_control(t, ss_u(0), ss_g(above), BYTES("+cpu +memory +pids")));
+		must(ss_write_subtree_control(t, ss_u(0), ss_g(above), BYTES("+cpu +io +memory +pids")));
 		must(ss_make(t, ss_u(0), ss_g(above), ss_g(group)));
 		set_all(t, ss_g(group), "4503599627370496", "4194304");
 		if (depth > 1)
@@ -248,16 +263,17 @@ static void make_trees(void)
 	uint64_t *deep = trees[1], *full = trees[2], *tight = trees[3], *wide = trees[4];
 
 	ss_fresh(trees[0], 1024);
-	/* Room for a process and a charge more, and a second leaf to move to. */
+	/* Room for a process and a charge more, and a second leaf to move to, with room for a device. */
 	make_deep(deep, 1, 1, SS_LAST_PROCESS - 1, SS_MAX_MACHINE_PAGES / SS_MAX_PAGES - 1);
 	must(ss_make(deep, ss_u(0), ss_g(7), ss_g(9)));
 	must(ss_hand_over(deep, ss_u(0), ss_g(9), ss_u(1000)));
+	limit_devices(deep, ss_g(9), SS_MAX_DEVICES - 1);
 	make_deep(full, 63, -1, SS_LAST_PROCESS, SS_MAX_MACHINE_PAGES / SS_MAX_PAGES);
 	/* No room in the last but one that is asked. */
 	make_deep(tight, 56, 1, SS_LAST_PROCESS - 1, 1);
 	set_all(tight, ss_g(56), "0", "0");
 	ss_fresh(wide, 1024);
-	must(ss_write_subtree_control(wide, ss_u(0), ss_g(0), BYTES("+cpu +memory +pids")));
+	must(ss_write_subtree_control(wide, ss_u(0), ss_g(0), BYTES("+cpu +io +memory +pids")));
 	for (uint64_t group = 1; group <= SS_LAST_GROUP; group++) {
 		must(ss_make(wide, ss_u(0), ss_g(0), ss_g(group)));
 		set_all(wide, ss_g(group), "4096", "1");

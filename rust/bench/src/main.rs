@@ -5,7 +5,8 @@ use std::env;
 
 use shootspiral_bench::Plain;
 use shootspiral_bench::work::{
-    Charge, Layout, Run, SPARE_GROUP, SPARE_PROCESS, charges, full_tree, must, owner, time, word,
+    Charge, FIRST_DEVICE, Layout, Run, SPARE_GROUP, SPARE_PROCESS, charges, full_tree, must, owner,
+    time, word,
 };
 use shootspiral_check::{Calls, Linked};
 
@@ -23,11 +24,11 @@ const BATCH: usize = 1_000;
 const ROUNDS: u64 = 4_000;
 
 const NOTES: &str = "\
-A tree of 64 groups, processes at depth 8 (9 groups consulted), all controllers on and both limits
-set in every group. Every call of both hosts is out of line, the plain one's through the same trait.
-A run is 50 slices, and the hosts take turns slice by slice; the figures are the median slice and
-the fastest. Reply buffers are cleared once, before the first run, and not between calls; trees are
-not cleared between runs. The hosts' answers are compared: all are the same.";
+A tree of 64 groups, processes at depth 8 (9 groups consulted), all controllers on, both limits and
+three devices set in every group. Every call of both hosts is out of line, the plain one's through
+the same trait. A run is 50 slices, and the hosts take turns slice by slice; the figures are the
+median slice and the fastest. Reply buffers are cleared once, before the first run, and not between
+calls; trees are not cleared between runs. The hosts' answers are compared: all are the same.";
 
 fn main() {
     let runs = match env::args().nth(1).map(|word| word.parse()) {
@@ -92,13 +93,17 @@ fn rows() -> Vec<Row> {
         row!("move between two leaves, by their owner", moves),
         row!("fork, exit", fork_and_exit),
         row!("write memory.max, a figure", setting_writes),
+        row!("write io.max, two keys of a device that is held", device_writes),
+        row!("write io.max, a device before three, and away", device_comes_and_goes),
         row!("read cgroup.procs, all 256 processes, 916 bytes", procs_reads),
         row!("read memory.current", usage_reads),
+        row!("read io.max, four devices, 207 bytes", device_reads),
         row!("membership line at depth 8", memberships),
     ]
 }
 
-/// A host with its full tree, one in which a single group holds all processes, and buffers.
+/// A host with its full tree, one in which a single group holds all processes and a device more, and
+/// buffers.
 struct Bench<H> {
     host: H,
     crowded: H,
@@ -116,6 +121,7 @@ impl<H: Calls> Bench<H> {
         for process in 1..=SPARE_PROCESS {
             must(crowded.write_procs(0, leaf, process.to_string().as_bytes()));
         }
+        must(crowded.write_setting(0, leaf, b"io.max", FIRST_DEVICE));
         let charges = charges(&layout, MILLION);
         Bench { host, crowded, layout, charges, reply: [0; 1024] }
     }
@@ -221,6 +227,26 @@ impl<H: Calls> Bench<H> {
         })
     }
 
+    /// In groups that are never removed, so that the device is there.
+    fn device_writes(&mut self, _slice: usize) -> Run {
+        let Bench { host, .. } = self;
+        time(ROUNDS, 1, |place| {
+            let group = place % (SPARE_GROUP - 1) + 1;
+            u64::from(host.write_setting(0, group, b"io.max", b"8:32 rbps=2097152 wiops=120\n"))
+        })
+    }
+
+    /// There and back, so that the tree is as it was.
+    fn device_comes_and_goes(&mut self, _slice: usize) -> Run {
+        let Bench { host, .. } = self;
+        time(ROUNDS, 2, |place| {
+            let group = place % (SPARE_GROUP - 1) + 1;
+            let comes = host.write_setting(0, group, b"io.max", b"8:0 rbps=2097152 wiops=120\n");
+            let goes = host.write_setting(0, group, b"io.max", b"8:0 rbps=max wiops=max\n");
+            u64::from(comes) << 8 | u64::from(goes)
+        })
+    }
+
     fn procs_reads(&mut self, _slice: usize) -> Run {
         let Bench { crowded, layout, reply, .. } = self;
         let leaf = layout.leaves[0][0];
@@ -237,6 +263,16 @@ impl<H: Calls> Bench<H> {
             let mut told = [0; 1];
             let number = host.read(place % 63 + 1, b"memory.current", reply, &mut told);
             word(number, [told[0], u64::from(reply[0])])
+        })
+    }
+
+    fn device_reads(&mut self, _slice: usize) -> Run {
+        let Bench { crowded, layout, reply, .. } = self;
+        let leaf = layout.leaves[0][0];
+        time(ROUNDS, 1, |_| {
+            let mut told = [0; 1];
+            let number = crowded.read(leaf, b"io.max", reply, &mut told);
+            word(number, [told[0], u64::from(reply[206])])
         })
     }
 

@@ -1,9 +1,12 @@
 //! A host for the same calls as an ordinary Rust program: structs and enums, running sums of pages
 //! and processes for each group, nothing proved. It is what the proved host is timed against.
 
+mod devices;
+
 use shootspiral_check::Calls;
 
 use self::Errno::*;
+use self::devices::{Change, Device, Devices, KEYS};
 
 const GROUPS: usize = 64;
 const PROCESSES: usize = 257;
@@ -43,12 +46,17 @@ impl From<Errno> for Denied {
 #[derive(Clone, Copy)]
 enum Controller {
     Cpu,
+    Io,
     Memory,
     Pids,
 }
 
-const CONTROLLERS: [(Controller, &[u8]); 3] =
-    [(Controller::Cpu, b"cpu"), (Controller::Memory, b"memory"), (Controller::Pids, b"pids")];
+const CONTROLLERS: [(Controller, &[u8]); 4] = [
+    (Controller::Cpu, b"cpu"),
+    (Controller::Io, b"io"),
+    (Controller::Memory, b"memory"),
+    (Controller::Pids, b"pids"),
+];
 
 /// A set of controllers, a bit each.
 #[derive(Clone, Copy, PartialEq, Eq)]
@@ -56,7 +64,7 @@ struct Set(u8);
 
 impl Set {
     const EMPTY: Set = Set(0);
-    const ALL: Set = Set(0b111);
+    const ALL: Set = Set(0b1111);
 
     fn has(self, controller: Controller) -> bool {
         self.0 & (1 << controller as u8) != 0
@@ -147,6 +155,8 @@ struct Process {
 #[derive(Clone)]
 pub struct Plain {
     groups: [Group; GROUPS],
+    /// Of each group, and not in it: a walk up the groups passes none of this.
+    devices: [Devices; GROUPS],
     processes: [Option<Process>; PROCESSES],
 }
 
@@ -242,6 +252,7 @@ impl Plain {
             return Err(Eagain);
         }
         self.groups[group as usize] = Group::new(parent as u8, depth + 1, user);
+        self.devices[group as usize].clear();
         self.groups[parent as usize].children += 1;
         Ok(())
     }
@@ -326,8 +337,12 @@ impl Plain {
         }
         self.groups[group as usize].set = Set(old.minus(left).0 | joins.0);
         if left != Set::EMPTY {
-            for g in self.groups.iter_mut().filter(|g| is_child(g)) {
+            let all = self.groups.iter_mut().zip(&mut self.devices);
+            for (g, devices) in all.filter(|(g, _)| is_child(g)) {
                 g.reset(left);
+                if left.has(Controller::Io) {
+                    devices.clear();
+                }
             }
         }
         Ok(())
@@ -340,6 +355,7 @@ impl Plain {
             b"memory.max" => Controller::Memory,
             b"pids.max" => Controller::Pids,
             b"cpu.weight" | b"cpu.max" => Controller::Cpu,
+            b"io.max" => Controller::Io,
             _ => return Err(Enoent),
         };
         if !on.has(controller) {
@@ -347,6 +363,9 @@ impl Plain {
         }
         if !self.may_write(user, parent) {
             return Err(Eacces);
+        }
+        if file == b"io.max" {
+            return self.devices[group as usize].change(&Change::parse(line)?);
         }
         let mut words = words(line)?;
         let first = words.next().ok_or(Einval)?;
@@ -468,6 +487,11 @@ impl Plain {
                 text.limit(g.cpu_max, b' ');
                 text.figure(g.cpu_period, b'\n');
             }
+            b"io.max" if on.has(Controller::Io) => {
+                for device in self.devices[group].held() {
+                    text.device(device);
+                }
+            }
             _ => return Err(Enoent),
         }
         Ok(())
@@ -533,6 +557,18 @@ impl Text {
         self.bytes(&[end]);
     }
 
+    fn device(&mut self, device: &Device) {
+        let (major, minor) = device.number;
+        self.figure(major.into(), b':');
+        self.figure(minor.into(), b' ');
+        let ends = [b' ', b' ', b' ', b'\n'];
+        for ((key, limit), end) in KEYS.into_iter().zip(device.limits).zip(ends) {
+            self.bytes(key);
+            self.bytes(b"=");
+            self.limit(limit, end);
+        }
+    }
+
     fn names(&mut self, set: Set) {
         for (controller, name) in CONTROLLERS {
             if set.has(controller) {
@@ -567,6 +603,9 @@ fn words(line: &[u8]) -> Done<impl Iterator<Item = &[u8]>> {
 
 /// A number word's value; any that passes 64 bits is the largest, which is outside every range.
 fn number(word: &[u8]) -> Option<u64> {
+    if word.is_empty() {
+        return None;
+    }
     let mut value = 0u64;
     for byte in word {
         let digit = byte.wrapping_sub(b'0');
@@ -626,7 +665,7 @@ impl Calls for Plain {
         let mut groups = [free; GROUPS];
         let machine = machine_pages.min(1 << 40);
         groups[0] = Group { memory_max: Some(machine), ..Group::new(0, 0, 0) };
-        Plain { groups, processes: [None; PROCESSES] }
+        Plain { groups, devices: [Devices::NONE; GROUPS], processes: [None; PROCESSES] }
     }
 
     #[inline(never)]

@@ -1,5 +1,6 @@
 //! The tree that is timed, and the calls that are timed on it. A tree of 64 groups, each below the
-//! root with all controllers on and both limits set, in four columns that go down to depth 8:
+//! root with all controllers on, both limits set and three devices in io.max, in four columns that go
+//! down to depth 8:
 //!
 //! ```text
 //! 0
@@ -24,6 +25,15 @@ const MACHINE: u64 = 1 << 30;
 pub const SPARE_GROUP: u64 = 63;
 /// Kept free, so that it can be forked to.
 pub const SPARE_PROCESS: u64 = 256;
+
+/// What is written to io.max of every group.
+const DEVICES: [&[u8]; 3] = [
+    b"8:16 rbps=2097152 wbps=1048576 riops=2400 wiops=120",
+    b"8:32 rbps=2097152 wbps=1048576 riops=2400 wiops=120",
+    b"8:48 rbps=2097152 wbps=1048576 riops=2400 wiops=120",
+];
+/// Comes before them, and is held nowhere.
+pub const FIRST_DEVICE: &[u8] = b"8:0 rbps=2097152 wbps=1048576 riops=2400 wiops=120";
 
 /// Where everything stands in the full tree.
 pub struct Layout {
@@ -51,7 +61,7 @@ pub fn full_tree<H: Calls>() -> (H, Layout) {
         column: vec![0; PROCESSES as usize + 1],
         above_spare: 0,
     };
-    let controllers = b"+cpu +memory +pids";
+    let controllers = b"+cpu +io +memory +pids";
     must(host.write_subtree_control(0, 0, controllers));
     let mut next = 1;
     let mut bottoms = vec![];
@@ -79,6 +89,9 @@ pub fn full_tree<H: Calls>() -> (H, Layout) {
     for group in 1..GROUPS {
         must(host.write_setting(0, group, b"memory.max", b"1099511627776"));
         must(host.write_setting(0, group, b"pids.max", b"1000"));
+        for device in DEVICES {
+            must(host.write_setting(0, group, b"io.max", device));
+        }
     }
     for process in 1..PROCESSES {
         let column = process % COLUMNS;

@@ -29,3 +29,6 @@ pub const CPU_WEIGHT: &str = "cpu.weight";
 
 /// The processor's time for each period, and the period; where cpu is on.
 pub const CPU_MAX: &str = "cpu.max";
+
+/// The limits on reads and writes of each device, a line for each; where io is on.
+pub const IO_MAX: &str = "io.max";

@@ -35,7 +35,8 @@ impl Host {
     /// ```
     /// # use shootspiral::{GroupId, Host};
     /// let host = Host::fresh(1024);
-    /// assert_eq!(host.read(GroupId::ROOT, "cgroup.controllers").unwrap(), b"cpu memory pids\n");
+    /// let controllers = host.read(GroupId::ROOT, "cgroup.controllers").unwrap();
+    /// assert_eq!(controllers, b"cpu io memory pids\n");
     /// ```
     pub fn fresh(machine_pages: u64) -> Host {
         let mut tree = vec![0; sys::ss_tree_words() as usize].into_boxed_slice();
@@ -158,10 +159,11 @@ impl Host {
         })
     }
 
-    /// Writes memory.max, pids.max, cpu.weight or cpu.max of `group`.
+    /// Writes memory.max, pids.max, cpu.weight, cpu.max or io.max of `group`.
     ///
-    /// EINVAL: above 63. ENOENT: not live, not one of the four, or its controller not on. EACCES:
+    /// EINVAL: above 63. ENOENT: not live, not one of the five, or its controller not on. EACCES:
     /// `user` may not write the parent. EINVAL: malformed. ERANGE: a figure outside its range.
+    /// ENOSPC: a device would be held beside four others.
     ///
     /// ```
     /// # use shootspiral::{GroupId, Host, Refusal, User, file};
@@ -170,6 +172,23 @@ impl Host {
     /// host.write_subtree_control(User::ROOT, GroupId::ROOT, "+cpu")?;
     /// host.write_setting(User::ROOT, GroupId(1), file::CPU_MAX, "50000")?;
     /// assert_eq!(host.read(GroupId(1), file::CPU_MAX)?, b"50000 100000\n");
+    /// # Ok::<(), Refusal>(())
+    /// ```
+    ///
+    /// A line for io.max is one device; a key that it does not give keeps what it had, and a device
+    /// whose limits are all "max" is not held:
+    ///
+    /// ```
+    /// # use shootspiral::{GroupId, Host, Refusal, User, file};
+    /// let mut host = Host::fresh(1024);
+    /// host.make(User::ROOT, GroupId::ROOT, GroupId(1))?;
+    /// host.write_subtree_control(User::ROOT, GroupId::ROOT, "+io")?;
+    /// host.write_setting(User::ROOT, GroupId(1), file::IO_MAX, "8:16 wiops=120 rbps=2097152")?;
+    /// let limited = b"8:16 rbps=2097152 wbps=max riops=max wiops=120\n";
+    /// assert_eq!(host.read(GroupId(1), file::IO_MAX)?, limited);
+    /// host.write_setting(User::ROOT, GroupId(1), file::IO_MAX, "8:16 wiops=max")?;
+    /// host.write_setting(User::ROOT, GroupId(1), file::IO_MAX, "8:16 rbps=max")?;
+    /// assert_eq!(host.read(GroupId(1), file::IO_MAX)?, b"");
     /// # Ok::<(), Refusal>(())
     /// ```
     pub fn write_setting(
@@ -318,10 +337,10 @@ impl Host {
     /// ```
     /// # use shootspiral::{GroupId, Host, Refusal};
     /// let host = Host::fresh(1024);
-    /// let mut reply = [b'.'; 18];
-    /// assert_eq!(host.read_into(GroupId::ROOT, "cgroup.controllers", &mut reply), Ok(16));
-    /// assert_eq!(&reply, b"cpu memory pids\n..");
-    /// let short = &mut reply[..15];
+    /// let mut reply = [b'.'; 21];
+    /// assert_eq!(host.read_into(GroupId::ROOT, "cgroup.controllers", &mut reply), Ok(19));
+    /// assert_eq!(&reply, b"cpu io memory pids\n..");
+    /// let short = &mut reply[..18];
     /// assert_eq!(
     ///     host.read_into(GroupId::ROOT, "cgroup.controllers", short),
     ///     Err(Refusal::Enospc)

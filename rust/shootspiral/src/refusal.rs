@@ -25,7 +25,7 @@ pub enum Refusal {
     Eexist = 17,
     /// A number out of range, or malformed text.
     Einval = 22,
-    /// The reply buffer is shorter than the reply.
+    /// The reply buffer is shorter than the reply, or io.max holds four devices already.
     Enospc = 28,
     /// A well-formed figure outside its range, or too many pages released.
     Erange = 34,
@@ -93,7 +93,7 @@ impl Refusal {
             Refusal::Ebusy => "group in use, or the inner-process rule",
             Refusal::Eexist => "number already live",
             Refusal::Einval => "number out of range or text malformed",
-            Refusal::Enospc => "reply buffer shorter than the reply",
+            Refusal::Enospc => "reply buffer shorter than the reply, or a fifth device in io.max",
             Refusal::Erange => "figure outside its range, or too many pages released",
         }
     }

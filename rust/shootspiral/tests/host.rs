@@ -1,7 +1,9 @@
 //! The safe crate over the library: that what it declares is what the library has, and that numbers
 //! and replies come through as they are.
 
-use shootspiral::number::{LAST_GROUP, LAST_PROCESS, LONGEST_REPLY, MAX_DEPTH, TREE_WORDS};
+use shootspiral::number::{
+    LAST_GROUP, LAST_PROCESS, LONGEST_IO_MAX, LONGEST_REPLY, MAX_DEPTH, MAX_DEVICES, TREE_WORDS,
+};
 use shootspiral::{Denial, GroupId, Host, ProcessId, Refusal, User, file, first_bad_word, sys};
 
 #[test]
@@ -23,6 +25,8 @@ fn the_header_says_the_same() {
         ("SS_MAX_LINE", shootspiral::number::MAX_LINE as u64),
         ("SS_LONGEST_REPLY", LONGEST_REPLY as u64),
         ("SS_LONGEST_CHAIN", MAX_DEPTH + 1),
+        ("SS_MAX_DEVICES", MAX_DEVICES as u64),
+        ("SS_LONGEST_IO_MAX", LONGEST_IO_MAX as u64),
     ];
     let errnos = Refusal::ALL.map(|refusal| (refusal.name(), u64::from(refusal.number())));
     let errnos = errnos.map(|(name, number)| (format!("SS_{name}"), number));
@@ -61,6 +65,53 @@ fn a_full_tree() {
     assert_eq!(procs, expected.as_bytes());
     assert_eq!(host.membership(LAST_PROCESS).unwrap(), b"0::/1/2/3/4/5/6/7/8\n");
     assert_eq!(host.charge(LAST_PROCESS, 1), Ok(9));
+}
+
+/// Cgroup 1 with the last devices that there can be, and the lines that io.max shows of them.
+fn full_io_max() -> (Host, Vec<String>) {
+    let mut host = Host::fresh(1024);
+    host.make(User::ROOT, GroupId::ROOT, GroupId(1)).unwrap();
+    host.write_subtree_control(User::ROOT, GroupId::ROOT, "+io").unwrap();
+    let limits = ["rbps", "wbps", "riops", "wiops"].map(|key| format!(" {key}=4503599627370496"));
+    let line = |minor| format!("255:{minor}{}\n", limits.concat());
+    let lines: Vec<String> = (256 - MAX_DEVICES..256).map(line).collect();
+    for line in lines.iter().rev() {
+        write_io_max(&mut host, line).unwrap();
+    }
+    (host, lines)
+}
+
+fn write_io_max(host: &mut Host, line: &str) -> Result<(), Refusal> {
+    host.write_setting(User::ROOT, GroupId(1), file::IO_MAX, line)
+}
+
+#[test]
+fn the_longest_io_max() {
+    let (host, lines) = full_io_max();
+    let text = host.read(GroupId(1), file::IO_MAX).unwrap();
+    assert_eq!(text, lines.concat().as_bytes());
+    assert_eq!(text.len(), LONGEST_IO_MAX);
+    let short = &mut [0; LONGEST_IO_MAX - 1];
+    assert_eq!(host.read_into(GroupId(1), file::IO_MAX, short), Err(Refusal::Enospc));
+}
+
+#[test]
+fn a_fifth_device_has_room_when_another_has_gone() {
+    let (mut host, lines) = full_io_max();
+    assert_eq!(write_io_max(&mut host, "8:16 rbps=1"), Err(Refusal::Enospc));
+    write_io_max(&mut host, "255:255 rbps=max wbps=max riops=max wiops=max").unwrap();
+    write_io_max(&mut host, "8:16 rbps=1").unwrap();
+    let first = "8:16 rbps=1 wbps=max riops=max wiops=max\n";
+    let text = host.read(GroupId(1), file::IO_MAX).unwrap();
+    assert_eq!(text, [first, &lines[..MAX_DEVICES - 1].concat()].concat().as_bytes());
+}
+
+#[test]
+fn io_that_leaves_takes_the_devices_with_it() {
+    let (mut host, _) = full_io_max();
+    host.write_subtree_control(User::ROOT, GroupId::ROOT, "-io").unwrap();
+    host.write_subtree_control(User::ROOT, GroupId::ROOT, "+io").unwrap();
+    assert_eq!(host.read(GroupId(1), file::IO_MAX).unwrap(), b"");
 }
 
 #[test]
