@@ -8,6 +8,7 @@ use std::ops::RangeInclusive;
 use crate::call::{Answer, Call};
 use crate::calls::NO_GROUP;
 use crate::compare::ROOM;
+use crate::model::CONTROLLERS;
 
 mod tokens;
 
@@ -23,6 +24,9 @@ pub struct Case {
     pub name: String,
     /// The size of the machine.
     pub pages: u64,
+    /// The controllers that the kernels were asked about: what the root has is told of these alone.
+    /// None, where it is told whole.
+    pub controllers: Vec<&'static str>,
     pub entries: Vec<Entry>,
 }
 
@@ -110,7 +114,9 @@ impl List {
                 None => return Err("expected ## and a name before another case".into()),
                 Some(name) => name,
             };
-            self.cases.push(Case { name, pages: tokens.number()?, entries: vec![] });
+            let pages = tokens.number()?;
+            let controllers = CONTROLLERS.into_iter().filter(|name| tokens.skip(name)).collect();
+            self.cases.push(Case { name, pages, controllers, entries: vec![] });
         } else {
             let case = self.cases.last_mut().filter(|_| heading.is_none());
             let case = case.ok_or("expected a fresh tree first")?;
@@ -235,13 +241,35 @@ impl Reply {
         Ok(Reply { number, group, text })
     }
 
-    /// An answer, as a list tells it.
+    /// An answer, as a case tells it.
     #[must_use]
-    pub fn of(call: &Call, answer: &Answer) -> Reply {
+    pub fn of(case: &Case, call: &Call, answer: &Answer) -> Reply {
         let asks_room = matches!(call, Call::Charge { .. } | Call::Fork { .. });
         let group = (asks_room && answer.told[0] != NO_GROUP).then_some(answer.told[0]);
-        Reply { number: answer.number, group, text: answer.text() }
+        let mut text = answer.text();
+        if lists_all_controllers(call) && !case.controllers.is_empty() {
+            text = text.map(|text| cut(&text, &case.controllers));
+        }
+        Reply { number: answer.number, group, text }
     }
+}
+
+/// What a case has switched on is its own; the root has all that there are.
+fn lists_all_controllers(call: &Call) -> bool {
+    matches!(call, Call::Read { group: 0, file, .. } if file == b"cgroup.controllers")
+}
+
+/// A line of names without the controllers that are not among these. Anything else stays in it, so
+/// that it is found.
+fn cut(line: &[u8], controllers: &[&str]) -> Vec<u8> {
+    let is_other = |name: &[u8]| {
+        let controller = CONTROLLERS.iter().find(|controller| controller.as_bytes() == name);
+        controller.is_some_and(|controller| !controllers.contains(controller))
+    };
+    let (names, end) = line.split_at(line.len() - usize::from(line.ends_with(b"\n")));
+    let names = names.split(|&byte| byte == b' ').filter(|name| !is_other(name));
+    let names: Vec<&[u8]> = names.collect();
+    [&names.join(&b' '), end].concat()
 }
 
 impl Linux {

@@ -46,7 +46,7 @@ pub fn replay<H: Calls>(list: &List, fresh: impl Fn(u64) -> H) -> Result<Tally, 
             let mismatch = |cause| Box::new(Mismatch { case, entry, cause });
             let answer = pair.answer(&entry.call);
             let answer = answer.map_err(|difference| mismatch(Cause::Difference(difference)))?;
-            let reply = Reply::of(&entry.call, &answer);
+            let reply = Reply::of(case, &entry.call, &answer);
             if reply != entry.reply {
                 return Err(mismatch(Cause::Reply(reply)));
             }
@@ -64,7 +64,7 @@ pub fn mismatches<H: Calls>(list: &List, fresh: impl Fn(u64) -> H) -> Vec<&Entry
         let mut host = fresh(case.pages);
         for (entry, fill) in case.entries.iter().zip((0..=u8::MAX).cycle()) {
             let answer = entry.call.on(&mut host, fill);
-            if Reply::of(&entry.call, &answer) != entry.reply {
+            if Reply::of(case, &entry.call, &answer) != entry.reply {
                 found.push(entry);
             }
         }

@@ -7,6 +7,8 @@ mod lists;
 use std::collections::BTreeSet;
 
 use lists::{DIFFERENCES, all, file, list};
+use shootspiral_check::Call;
+use shootspiral_check::model::CONTROLLERS;
 use shootspiral_check::recorded::{Entry, Linux, List};
 
 /// What Linux answers, each list in one figure: the calls, and Linux's answer where a line has two.
@@ -19,8 +21,8 @@ const DIGESTS: [(&str, u64); 8] = [
     ("test_pids.txt", 0xabe5_3cdd_da2f_764c),
     ("test_memcontrol.txt", 0x4821_3e8c_ed00_ebe3),
     ("test_cpu.txt", 0x9a86_a97a_27e2_447e),
-    ("agreed.txt", 0x7f96_bcbd_de05_d79e),
-    ("differences.txt", 0x5943_f644_66d7_623c),
+    ("agreed.txt", 0x57b7_9604_849e_0bf2),
+    ("differences.txt", 0x4b6d_b300_0d92_68ce),
 ];
 
 #[test]
@@ -77,6 +79,24 @@ fn orders_are_named() {
         assert!(in_lines.is_subset(&in_head), "{name}");
         for entry in list.entries().filter(|entry| entry.linux.is_some()) {
             assert!(entry.order.is_some() || name == DIFFERENCES, "{name}: {}", entry.text);
+        }
+    }
+}
+
+/// A case that names controllers switches no others: of Linux's texts they were cut off.
+#[test]
+fn no_others_are_switched() {
+    for list in all().map(list) {
+        for case in list.cases.iter().filter(|case| !case.controllers.is_empty()) {
+            for other in CONTROLLERS.iter().filter(|other| !case.controllers.contains(other)) {
+                let is_switched = |entry: &Entry| match &entry.call {
+                    Call::WriteSubtreeControl { line, .. } => {
+                        String::from_utf8_lossy(line).contains(other)
+                    }
+                    _ => false,
+                };
+                assert!(!case.entries.iter().any(is_switched), "{}: {other}", case.name);
+            }
         }
     }
 }

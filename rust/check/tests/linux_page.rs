@@ -1,5 +1,5 @@
-//! `docs/LINUX.md` held to the lists of `tests/linux` and to document 01: how many calls there are,
-//! a row for each case, and quotations. What a row says in its own words no test holds.
+//! `docs/LINUX.md` held to the lists of `tests/linux` and to documents 01 and 02: how many calls
+//! there are, a row for each case, and quotations. What a row says in its own words no test holds.
 
 #[path = "common/lists.rs"]
 mod lists;
@@ -74,22 +74,35 @@ fn paragraph(name: &str) -> String {
     found.replace("**", "")
 }
 
-/// Each difference names a paragraph of document 01 with words that stand there, and then perhaps
-/// an order of document 02.
+/// The paragraph of an order of document 02.
+fn order(name: &str) -> String {
+    let paper = file("docs/papers/02-change-requests.md");
+    let found = paper.lines().find(|line| line.starts_with(&format!("**{name}. ")));
+    found.unwrap_or_else(|| panic!("document 02 has no {name}")).replace("**", "")
+}
+
+/// Each difference names paragraphs of document 01 or orders of document 02 with words that stand
+/// there, and then perhaps an order that will change it.
 #[test]
 fn quotations_are_literal() {
     for row in rows(DIFFERENCES_HEADING) {
-        let source = &row[2];
-        assert!(source.starts_with("01, "), "{source}");
-        for part in source.split("; 01, ").map(|part| part.trim_start_matches("01, ")) {
-            let (name, rest) = part.split_once(": *").unwrap_or_else(|| panic!("{source}"));
-            let (words, rest) = rest.split_once('*').unwrap_or_else(|| panic!("{source}"));
-            let is_quoted = !words.is_empty() && paragraph(name).contains(words);
-            assert!(is_quoted, "{name}: {words}");
-            let order = rest.strip_prefix("; order ").and_then(|rest| rest.split(' ').next());
-            let order = order.and_then(|order| order.parse().ok());
-            assert!(rest.is_empty() || order.is_some_and(|n| ORDERS.contains(&n)), "{source}");
+        let source = format!("; {}", row[2]);
+        let parts: Vec<&str> = source.split('*').collect();
+        let (quotations, rest) = parts.as_chunks();
+        assert!(!quotations.is_empty() && rest.len() == 1, "{source}");
+        for [place, words] in quotations {
+            let place = place.strip_prefix("; ").and_then(|place| place.strip_suffix(": "));
+            let (paper, name) = place.and_then(|place| place.split_once(", ")).expect(&source);
+            let text = match paper {
+                "01" => paragraph(name),
+                "02" => order(name),
+                _ => panic!("{source}"),
+            };
+            assert!(!words.is_empty() && text.contains(words), "{name}: {words}");
         }
+        let order = rest[0].strip_prefix("; order ").and_then(|rest| rest.split(' ').next());
+        let order = order.and_then(|order| order.parse().ok());
+        assert!(rest[0].is_empty() || order.is_some_and(|n| ORDERS.contains(&n)), "{source}");
     }
 }
 

@@ -1,9 +1,11 @@
 //! The form of the lists of `tests/linux`. A line that is passed over, or half understood, would
 //! look like one that held.
 
-use shootspiral_check::Call;
 use shootspiral_check::compare::ROOM;
+use shootspiral_check::model::Model;
 use shootspiral_check::recorded::{Entry, Linux, List, Reply};
+use shootspiral_check::replay::{mismatches, replay};
+use shootspiral_check::{Call, Calls};
 
 fn parse(line: &str) -> Option<Entry> {
     let list = List::parse(&format!("fresh 1\n{line}\n")).ok()?;
@@ -155,6 +157,11 @@ fn cases_are_whole() {
             "fresh 1 = 0\nexit 1 = 3\n",
             "line 1: fresh 1 = 0\n    expected the end of the line, found =",
         ),
+        ("fresh 1 disk\n", "line 1: fresh 1 disk\n    expected the end of the line, found disk"),
+        (
+            "fresh 1 pids cpu\n",
+            "line 1: fresh 1 pids cpu\n    expected the end of the line, found cpu",
+        ),
         ("exit 1 = 3\n", "line 1: exit 1 = 3\n    expected a fresh tree first"),
         ("## one\nexit 1 = 3\n", "line 2: exit 1 = 3\n    expected a fresh tree first"),
         ("##one\n", "line 1: ##one\n    expected a space and a name after ##"),
@@ -175,5 +182,36 @@ fn cases_are_whole() {
     ];
     for (file, expected) in rows {
         assert_eq!(error(file), expected);
+    }
+}
+
+/// Where controllers stand behind `fresh`, those of the root are told without others; no other text
+/// is told otherwise.
+#[test]
+fn controllers_of_the_root_are_cut() {
+    let list = |fresh: &str, names: &str| {
+        let file = format!(
+            r#"{fresh}
+               make 0 0 1 = 0
+               control 0 0 "+cpu +pids" = 0
+               read 0 cgroup.subtree_control = 0 "cpu pids\n"
+               read 1 cgroup.controllers = 0 "cpu pids\n"
+               read 0 cgroup.controllers = 0 "{names}""#
+        );
+        List::parse(&file).unwrap_or_else(|error| panic!("{error}"))
+    };
+    let rows = [
+        ("fresh 1 cpu memory pids", r"cpu memory pids\n"),
+        ("fresh 1 cpu pids", r"cpu pids\n"),
+        ("fresh 1 memory", r"memory\n"),
+    ];
+    let texts = rows.map(|(_, names)| names);
+    for (fresh, names) in rows {
+        assert!(replay(&list(fresh, names), Model::fresh).is_ok(), "{fresh}");
+        for others in texts.into_iter().chain([r"pids cpu\n", "memory", r" memory\n", ""]) {
+            let list = list(fresh, others);
+            let expected = usize::from(others != names);
+            assert_eq!(mismatches(&list, Model::fresh).len(), expected, "{fresh}: {others}");
+        }
     }
 }
