@@ -34,6 +34,7 @@ use Rattle.model.proofs.ChainLaws.{inside-live}
 use Rattle.model.proofs.NameLaws.{fileNamed-fileName}
 use Rattle.model.proofs.Steps.{passed, group-lives}
 use Rattle.model.proofs.OwnsInside.{owns-step}
+use Rattle.model.proofs.NameLaws.{of-base}
 use Rattle.model.proofs.Demands.{demands}
 use Rattle.tree.specs.Layout.{view}
 use Rattle.tree.specs.Kept.{Kept}
@@ -133,7 +134,8 @@ module _ {xs : List ℕ} {n k : ℕ} {buffer bytes : List ℕ} (g : ℕ) (s : Se
         each =
             all-map _ _ (linesOf text) (λ line d. (restores user line (d .0), restores user (body line) (d .1)))
             (back .each user g s read-lives read-on may);
-        one = back .one g s;
+        one = of-base (λ x. linesOf (D.shownBy t g x) ≡ D.shownBy t g x ∷ []) (back .one g) s;
+        short = back .short g s read-lives;
       })
 
 -- Containment along a run.

@@ -17,6 +17,7 @@ use Rattle.model.specs.Book.{Book, inBook, Entry, freshBook, bookOf, fed}
 use Rattle.model.specs.Lists.{log}
 use Rattle.model.specs.Marks.{AtLastWrite, MarkIs}
 use Rattle.model.specs.Totals.{Balanced}
+use Rattle.model.specs.DeviceBook.{noAccount, accountOf, accountFed, Accounted}
 use Rattle.model.specs.Demands.{Alike, Bounded, NoneOver}
 use Rattle.model.specs.Demands as D
 use Rattle.model.specs.declared.Resource.{Resource}
@@ -99,6 +100,8 @@ module _ {xs ys : List ℕ} {es : List Entry} (b : Book) (f : Followed xs es ys)
             (sym (ap₂ (λ (es : List Entry) (k : ℕ). es ++ (record { call = c; number = k } ∷ [])) (g .entries) (g .number) ∙ log-more (view xs) (g .earlier) c)) in
             subst (λ (x : Book). NoneOver q x (groupOf (x .place p))) more (d .accepted q p c (g .earlier) (g .later) k (g .calls) (sym (g .number)));
         balanced = subst₂ (λ (l : List Entry) (u : Tree). Balanced (view xs) l u) (sym (f .entries)) (sym (f .tree)) (d .balanced);
+        devices =
+            subst₂ (λ (l : List Entry) (u : Tree). Accounted u (accountFed b (accountOf (view xs)) l)) (sym (f .entries)) (sym (f .tree)) (d .devices);
       }
 
 -- the definitions' demand, from the tree of fresh words
@@ -112,6 +115,10 @@ module _ {m : ℕ} {xs : List ℕ} (z : Fresh m xs) (cs : List Call) where
       subst (λ (t : Tree). (g l : ℕ) → fed (freshBook m) (log t cs) .group g .limit Pages ≡ Figure l → AtLastWrite t cs g (fed (freshBook m) (log t cs) .mark g))
       (sym (z .tree)) (demands .fresh m .mark cs)
 
+  devices-fresh : Accounted (run (view xs) cs) (accountFed (freshBook m) noAccount (log (view xs) cs))
+  devices-fresh =
+      subst (λ (t : Tree). Accounted (run t cs) (accountFed (freshBook m) noAccount (log t cs))) (sym (z .tree)) (demands .fresh m .devices cs)
+
 pub demand-3-of-the-code : Demand3
 demand-3-of-the-code =
     record {
@@ -123,4 +130,8 @@ demand-3-of-the-code =
       mark = λ {m} {xs} {ys} {es} z r.
           subst (λ (l : List Entry). (g k : ℕ) → fed (freshBook m) l .group g .limit Pages ≡ Figure k → AtLastWrite (view xs) (callsOf es) g (fed (freshBook m) l .mark g))
           (sym (followed r .entries)) (mark-fresh z (callsOf es));
+      devices = λ {m} {xs} {ys} {es} z r.
+          let f = followed r in
+          subst₂ (λ (l : List Entry) (u : Tree). Accounted u (accountFed (freshBook m) noAccount l)) (sym (f .entries)) (sym (f .tree))
+          (devices-fresh z (callsOf es));
     }

@@ -1,14 +1,15 @@
 -- Demand 2 of the code, from the contracts alone: exactly when; what charge and fork tell; the question about a control line; texts
 -- delivered and written back; containment. Assumes nothing.
-use Prim.Native.Nat.{ℕ, suc, _+_}
+use Prim.Native.Nat.{ℕ, suc, _+_, _≤_}
 use mathlib.Core.Bool.{true}
 use mathlib.Core.List.{List, [], _∷_}
 use mathlib.Core.Logic.{_≢_}
 use mathlib.Core.Option.{none, some}
 use mathlib.Core.Path.{_≡_}
-use lib.ListN.{take}
+use lib.ListN.{length, take}
 use denote.Ref.{RefT, ptr, now}
 use Rattle.model.specs.Functions.{All}
+use Rattle.model.specs.Sizes.{longestShown}
 use Rattle.model.specs.Checks.{errnoNumber, answerNumber, Says}
 use Rattle.model.specs.Tree.{Tree, lives, parents, depths}
 use Rattle.model.specs.Hierarchy.{factsOf}
@@ -27,6 +28,7 @@ use Rattle.model.specs.Containment.{caller, OwnsInside, NoneAcross, GivesOutsid
 use Rattle.model.specs.Demands.{StoppedAt}
 use Rattle.model.specs.declared.Resource.{Resource}
 use Rattle.model.specs.declared.Setting.{Setting}
+use Rattle.model.specs.declared.Setting.the-variants.{IoMax}
 use Rattle.model.specs.declared.Answer.{Answer}
 use Rattle.tree.specs.Layout.{view}
 use Rattle.tree.specs.Kept.{Kept, Fresh}
@@ -63,10 +65,12 @@ abbrev pub Restores : List ℕ → ℕ → ℕ → Setting → List ℕ → Type
 Restores xs user g s line =
     (ys : List ℕ) (m : ℕ) → Answered xs ys (writeSetting user g (settingName s) line) m → (m ≡ 0) × (view ys ≡ view xs)
 
--- each line of a text, as it stands and without its newline; there is one
+-- each line of a text, as it stands and without its newline, and none longer than the longest; of document 01's four settings there is
+-- one
 pub record ShownBack (xs : List ℕ) (user g : ℕ) (s : Setting) (text : List ℕ) : Type 0 where
   pub each : All (λ line. Restores xs user g s line × Restores xs user g s (body line)) (linesOf text)
-  pub one : linesOf text ≡ text ∷ []
+  pub one : s ≢ IoMax → linesOf text ≡ text ∷ []
+  pub short : All (λ line. length line ≤ longestShown) (linesOf text)
 
 pub record Demand2 : Type 0 where
   pub exactly : {xs ys : List ℕ} {c : Call} {n : ℕ} → Answered xs ys c n → Exactly xs ys c n

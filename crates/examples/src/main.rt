@@ -1,4 +1,4 @@
-// The evenings that document 01 works through, and what is right where it lists a slip: every call on a line, with its reply
+// The evenings that document 01 works through, what is right where it lists a slip, and those of orders: every call on a line, with its reply
 // after the colon. Nothing is judged here; what is printed is held to `stdout`, which is to be read beside the paper.
 mod say; // words and numbers on standard output
 mod tree_calls; // groups, processes and pages
@@ -7,6 +7,7 @@ mod reply_calls; // texts read into a buffer
 mod often; // calls that evenings make often
 mod charges; // P1 to P5, and the groups consulted
 mod settings; // P6 to P8
+mod devices; // io.max of order 1
 mod hierarchy; // P9, P10, and depths
 mod texts; // P11, whole replies, and bad words
 mod slips; // what is right where a slip looks right
@@ -41,6 +42,12 @@ fn others() {
     texts::first_bad_words();
 }
 
+// The orders of document 02.
+fn ordered() {
+    heading(b"Order 1: io.max, a line for a device; a fifth device is 28");
+    devices::of_a_group();
+}
+
 // The slips that look right, but for the common ancestor, which is P10.
 fn right() {
     heading(b"A pids limit stops forks, and no move");
@@ -60,4 +67,5 @@ fn main() {
     marked();
     others();
     right();
+    ordered();
 }

@@ -11,7 +11,7 @@ use super::tree_calls::fresh_tree;
 use super::tree_calls::make;
 use tree::layout::Tree;
 
-// Group 1 under the root, all three controllers on in it.
+// Group 1 under the root, with cpu, memory and pids on in it.
 fn one_group() -> Tree
     ensures { λ r. ⌜ Kept r ⌝ }
 {

@@ -2,11 +2,13 @@
 -- the name. Assumes nothing.
 use Prim.Native.Nat.{ℕ}
 use mathlib.Core.List.{List, [], _∷_}
+use mathlib.Core.Logic.{_≢_}
 use mathlib.Core.Option.{some}
 use mathlib.Core.Path.{_≡_, refl, ap, _∙_}
 use native.Mathlib.Omega.{arith}
+use Rattle.model.specs.Functions.{All}
 use Rattle.model.specs.Text.{sameBytes}
-use Rattle.model.specs.Names.{controllerName, settingName, fileName, named, controllerNamed, settingNamed, fileNamed}
+use Rattle.model.specs.Names.{controllerName, baseSettings, settingName, fileName, named, controllerNamed, settingNamed, fileNamed}
 use Rattle.model.specs.declared.Resource.the-variants.{Pages, Processes}
 use Rattle.model.specs.declared.Controller.{Controller}
 use Rattle.model.specs.declared.Controller.the-variants.{Cpu, Io, Memory, Pids}
@@ -31,6 +33,15 @@ settingNamed-settingName CpuMax = refl
 settingNamed-settingName IoMax = refl
 settingNamed-settingName (Max Pages) = refl
 settingNamed-settingName (Max Processes) = refl
+
+-- every setting but io.max is one of the four
+pub of-base : (P : Setting → Type 0) → All P baseSettings → (s : Setting) → s ≢ IoMax → P s
+unfolding All
+of-base P h CpuWeight ne = h .0
+of-base P h CpuMax ne = h .1 .0
+of-base P h IoMax ne = absurd (ne refl)
+of-base P h (Max Pages) ne = h .1 .1 .0
+of-base P h (Max Processes) ne = h .1 .1 .1 .0
 
 pub fileNamed-fileName : (f : File) → fileNamed (fileName f) ≡ some f
 unfolding named sameBytes
