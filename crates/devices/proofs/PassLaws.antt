@@ -17,6 +17,7 @@ use Rattle.model.specs.declared.Limit.{Limit}
 use Rattle.model.specs.declared.Key.{Key}
 use Rattle.model.specs.declared.Key.the-variants.{Rbps, Wbps, Riops, Wiops}
 use Rattle.devices.specs.declared.slot.Slot.{Slot}
+use Rattle.devices.proofs.SlotLaws.{table-free, table-taken, table-front}
 use Rattle.devices.specs.declared.table.Slots.{Slots}
 use Rattle.devices.specs.declared.table.Placed.{Placed}
 use Rattle.devices.specs.declared.table.Passed.{Passed}
@@ -41,16 +42,6 @@ module _ (x c : Slot) where
       pub comes-above : x .device < c .device → stepped x c ≡ stepOf x c
       comes-above h =
           rw (ne-eqb (c .device) 0 comes, ne-eqb (x .device) 0 here, le-ltb (c .device) (x .device) (omega arith), ne-eqb (c .device) (x .device) (λ e. omega arith))
-
--- The table of a slot and those after it.
-module _ (s : Slot) (ss : List Slot) where
-  table-free : s .device ≡ 0 → tableOf (s ∷ ss) ≡ []
-  unfolding tableOf
-  table-free h = rw (eq-eqb (s .device) 0 h)
-
-  table-taken : s .device ≢ 0 → tableOf (s ∷ ss) ≡ lineOf s ∷ tableOf ss
-  unfolding tableOf
-  table-taken h = rw (ne-eqb (s .device) 0 h)
 
 table-step : (c x u v : Slot) (xs : List Slot) → stepped x c ≡ stepOf u v → tableOf (passed c (x ∷ xs)) ≡ tableOf (u ∷ passed v xs)
 unfolding passed
@@ -228,11 +219,6 @@ unfolding Packed All
 packed-more [] p = ((λ y. (refl, tt)), tt)
 packed-more (x ∷ xs) p = ((λ y. (p .0 y .0, all-free-more xs (p .0 y .1))), packed-more xs (p .1))
 
-table-more : (xs : List Slot) → tableOf (xs ++ (freeSlot ∷ [])) ≡ tableOf xs
-unfolding tableOf
-table-more [] = refl
-table-more (x ∷ xs) = ap (λ (l : List DeviceLimits). pick (isFree x) [] (lineOf x ∷ l)) (table-more xs)
-
 module _ (w : ℕ) (some : w ≢ 0) where
   all-free-without : (xs : List Slot) → All (λ x. x ≡ freeSlot) xs → All (λ x. x ≡ freeSlot) (without w xs)
   unfolding without All
@@ -298,7 +284,7 @@ module _ (w : ℕ) (some : w ≢ 0) where
         ∙ ap (λ (m : List DeviceLimits). lineOf x ∷ m) (without-with-device (suc (x .device - 1)) xs (ascending-rest n x xs t a) (packed-rest x xs p))
         ∙ sym (old ∙ out-above (w - 1) l max (lineOf x) (tableOf xs) (omega arith))))
         (λ same. rw (eq-eqb (x .device) w same)
-        (table-more xs ∙ sym (old ∙ out-same (w - 1) l max (lineOf x) (tableOf xs) (omega arith))))
+        (table-front xs freeSlot refl ∙ sym (old ∙ out-same (w - 1) l max (lineOf x) (tableOf xs) (omega arith))))
         (λ more. rw (ne-eqb (x .device) w (λ z. omega arith))
         (table-taken x (without w xs) t
         ∙ ap (λ (m : List DeviceLimits). lineOf x ∷ m) (without-below (suc (x .device - 1)) xs (omega arith) (ascending-rest n x xs t a) (packed-rest x xs p))
@@ -389,7 +375,7 @@ module _ (s : Slots) (x : Slot) (k : InOrder (rows s)) (h : x .device ≢ 0) whe
       record {
         table =
             ap tableOf (all r)
-            ∙ table-more (without (x .device) (rows s))
+            ∙ table-front (without (x .device) (rows s)) freeSlot refl
             ∙ without-with-device (x .device) h (limitsOf x) m 0 (rows s) (k .ascending) (k .packed);
         room = room-of-five (t .a) (t .b) (t .c) (t .d) f (subst Packed (sym (all r)) (packed-more (without (x .device) (rows s)) (packed-without (x .device) h (rows s) (k .packed))));
         packed = subst Packed (sym (all r)) (packed-more (without (x .device) (rows s)) (packed-without (x .device) h (rows s) (k .packed)));

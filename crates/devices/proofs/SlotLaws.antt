@@ -99,12 +99,18 @@ slot-of-free w (x ∷ xs) h f =
     let z : x .device ≡ 0 = ap (λ (s : Slot). s .device) (f .0) in
     rw (ne-eqb (x .device) w (λ e. h (sym e ∙ z))) (slot-of-free w xs h (f .1))
 
+-- The table of a slot and those after it.
+module _ (s : Slot) (ss : List Slot) where
+  pub table-free : s .device ≡ 0 → tableOf (s ∷ ss) ≡ []
+  unfolding tableOf
+  table-free h = rw (eq-eqb (s .device) 0 h)
+
+  pub table-taken : s .device ≢ 0 → tableOf (s ∷ ss) ≡ lineOf s ∷ tableOf ss
+  unfolding tableOf
+  table-taken h = rw (ne-eqb (s .device) 0 h)
+
 -- its limits are what the table says
 module _ (d : ℕ) where
-  table-taken : (x : Slot) (xs : List Slot) → x .device ≢ 0 → tableOf (x ∷ xs) ≡ lineOf x ∷ tableOf xs
-  unfolding tableOf
-  table-taken x xs h = rw (ne-eqb (x .device) 0 h)
-
   at-head : (x : Slot) (xs : List DeviceLimits) (k : Key) → x .device ≡ d + 1 → limitsAt d (lineOf x ∷ xs) k ≡ limitsOf x k
   unfolding limitsAt
   at-head x xs k e = rw (eq-eqb (x .device - 1) d (omega arith))
@@ -162,7 +168,7 @@ packed-none =
     ((λ _. (refl, three)), ((λ _. three), ((λ _. two), ((λ _. one), tt))))
 
 -- A free slot at the end says nothing.
-table-front : (xs : List Slot) (e : Slot) → isFree e ≡ true → tableOf (xs ++ (e ∷ [])) ≡ tableOf xs
+pub table-front : (xs : List Slot) (e : Slot) → isFree e ≡ true → tableOf (xs ++ (e ∷ [])) ≡ tableOf xs
 unfolding tableOf
 table-front [] e h = rw h
 table-front (x ∷ xs) e h = ap (λ (l : List DeviceLimits). pick (isFree x) [] (lineOf x ∷ l)) (table-front xs e h)
