@@ -15,6 +15,9 @@ is-available-requires-2 c κs = let r = c .before .before .pre .group in live-ro
 is-available-requires-3 : tie.Need-is-available-requires-3
 is-available-requires-3 c κs = let r = c .before .before .before .pre .group in live-row _ (r .kept) _ (r .live)
 
+is-available-requires-4 : tie.Need-is-available-requires-4
+is-available-requires-4 c κs = let r = c .before .before .before .before .pre .group in live-row _ (r .kept) _ (r .live)
+
 put-names-requires : tie.Need-put-names-requires
 put-names-requires c κs = search needs
 
@@ -26,13 +29,15 @@ returns c =
     let w = c .before .before in
     let p = w .before .before in
     let m = p .before in
-    let k = m .before in
+    let i = m .before in
+    let k = i .before in
     let a = k .before .before .args in
     appended-as
-    (controllers-text (a .t .now) (a .g .0) _ _ _
+    (controllers-text (a .t .now) (a .g .0) _ _ _ _
     (k .is-available .ensures)
-    (m .is-available2 .ensures)
-    (p .is-available3 .ensures))
+    (i .is-available2 .ensures)
+    (m .is-available3 .ensures)
+    (p .is-available4 .ensures))
     (w .put-names .ensures)
 
 pub put-controllers-spec : {M : Type 1} → statement M
@@ -42,6 +47,7 @@ put-controllers-spec =
     is-available-requires
     is-available-requires-2
     is-available-requires-3
+    is-available-requires-4
     put-names-requires
     same-length
     returns)
