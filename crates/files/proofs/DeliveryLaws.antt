@@ -1,11 +1,10 @@
 -- How the promise of a call that delivers a text is met: by a refusal, which leaves the reply as it is, or by the delivery
--- of the text; of files, cgroup.procs apart from the others. Assumes nothing.
+-- of the text; of files, cgroup.procs and io.max apart from the others. Assumes nothing.
 use Prim.Native.Nat.{ℕ, _≤_, _<_}
 use native.Mathlib.Omega.{arith}
 use mathlib.Core.Bool.{Bool, true, false}
 use mathlib.Core.List.{List, [], _∷_}
 use mathlib.Core.Option.{Option, none, some}
-use mathlib.Core.Logic.{_≢_}
 use mathlib.Core.Path.{_≡_, refl, ap, sym, _∙_, subst}
 use lib.ListN.{take}
 use types.Run.{OneOf, miss}
@@ -25,7 +24,10 @@ use Rattle.model.specs.declared.Errno.the-variants.{Einval, Enoent, Esrch, Enos
 use Rattle.model.specs.declared.Answer.the-variants.{Done, Refused}
 use Rattle.model.specs.declared.ReadAnswer.{ReadAnswer}
 use Rattle.model.specs.declared.File.{File}
-use Rattle.model.proofs.File.{the-type}
+use Rattle.model.specs.declared.Setting.{Setting}
+use Rattle.model.specs.declared.Setting.the-variants.{IoMax}
+use Rattle.model.proofs.File.{the-type as file-type}
+use Rattle.model.proofs.Setting.{the-type as setting-type}
 use Rattle.model.proofs.FunctionLaws.{split}
 use Rattle.model.proofs.CheckLaws.{says-first, first-says}
 use Rattle.model.proofs.AmountLaws.{place-live}
@@ -33,7 +35,7 @@ use Rattle.text.specs.Write.{Appended, Delivers, delivery}
 use Rattle.tree.specs.Layout.{view}
 use Rattle.tree.specs.Kept.{Kept}
 use Rattle.tree.specs.Calling.{Delivering}
-use Rattle.files.specs.Texts.{DeliversFile}
+use Rattle.files.specs.Texts.{DeliversFile, Short}
 
 module _ (xs : List ℕ) (c : Call) where
   reading-refused : (e : Errno) → verdict (view xs) c ≡ Refused e → Delivering xs c (ReadAnswer.Refused e) (bufferOf c)
@@ -58,18 +60,46 @@ last-check text old = go (fits text old)
 pub delivers-text : {a b text old new : List ℕ} {k : ℕ} {r : ReadAnswer} → Appended a 0 text b k → Delivers (take k b) old r new → Delivers text old r new
 delivers-text w d = rw (w .front) at d
 
--- ---- cgroup.procs and the other files
+-- ---- cgroup.procs, io.max and the other files
 
-pub delivers-procs : (xs : List ℕ) (g : ℕ) (f : File) {old new : List ℕ} {r : ReadAnswer} → f ≡ File.Procs
-    → DeliversFile xs g File.Procs old r new → DeliversFile xs g f old r new
-delivers-procs xs g f {old} {new} {r} e d = subst (λ (x : File). DeliversFile xs g x old r new) (sym e) d
+-- by the file that was found
+pub delivers-found : (xs : List ℕ) (g : ℕ) {f h : File} {old new : List ℕ} {r : ReadAnswer} → f ≡ h
+    → DeliversFile xs g h old r new → DeliversFile xs g f old r new
+delivers-found xs g {old = old} {new} {r} e d = subst (λ (x : File). DeliversFile xs g x old r new) (sym e) d
 
--- the numbers of the other variants
+-- the numbers of the variants: of files but cgroup.procs, of files but the settings, of settings but io.max
 abbrev pub others : List ℕ
 others = 1 ∷ 2 ∷ 3 ∷ 4 ∷ 5 ∷ []
 
-pub not-procs : (f : File) → OneOf others (tagOf the-type f) → f ≢ File.Procs
-not-procs f k e = miss others 0 tt (subst (λ (x : File). OneOf others (tagOf the-type x)) e k)
+abbrev pub unset : List ℕ
+unset = 0 ∷ 1 ∷ 2 ∷ 3 ∷ 4 ∷ []
+
+abbrev pub otherSettings : List ℕ
+otherSettings = 0 ∷ 1 ∷ 3 ∷ []
+
+pub short-file : (f : File) → OneOf others (tagOf file-type f) → OneOf unset (tagOf file-type f) → Short f
+short-file f j k =
+    record {
+      not-procs = λ e. miss others 0 tt (subst (λ (x : File). OneOf others (tagOf file-type x)) e j);
+      not-devices = λ e. miss unset 5 tt (subst (λ (x : File). OneOf unset (tagOf file-type x)) e k);
+    }
+
+-- the setting that a settings file shows; no other file is asked
+abbrev settingIn : File → Setting
+settingIn File.Procs = IoMax
+settingIn File.Controllers = IoMax
+settingIn File.SubtreeControl = IoMax
+settingIn File.Events = IoMax
+settingIn (File.Current r) = IoMax
+settingIn (File.Value s) = s
+
+pub short-setting : (s : Setting) → OneOf otherSettings (tagOf setting-type s) → Short (File.Value s)
+short-setting s k =
+    record {
+      not-procs = λ e. omega (arith, ap (tagOf file-type) e);
+      not-devices = λ e.
+          miss otherSettings 2 tt (subst (λ (x : Setting). OneOf otherSettings (tagOf setting-type x)) (ap settingIn e) k);
+    }
 
 -- ---- read
 

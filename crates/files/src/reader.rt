@@ -1,13 +1,15 @@
 // The two calls that deliver a text: a file of a group, and the membership line of a process. Anyone may read.
 ghost use mathlib.Core.Path.{_≡_};
-ghost use mathlib.Core.Logic.{_≢_};
 ghost use Rattle.model.specs.Files.{isPresent};
 ghost use Rattle.model.specs.Calls.{read, membership};
+ghost use Rattle.model.specs.declared.File.{File};
+ghost use Rattle.model.specs.declared.Setting.{Setting};
 ghost use Rattle.tree.specs.Layout.{view};
 ghost use Rattle.tree.specs.Counters.{HasParent};
 ghost use Rattle.tree.specs.Kept.{Kept, KeptAt};
 ghost use Rattle.tree.specs.Calling.{Delivering};
-ghost use Rattle.files.specs.Texts.{Ready, Renders, DeliversFile};
+ghost use Rattle.files.specs.Texts.{Ready, Renders, DeliversFile, Short};
+use super::device::put_devices;
 use super::list::put_controllers;
 use super::list::put_procs;
 use super::list::put_subtree_control;
@@ -20,6 +22,7 @@ use model::File;
 use model::GroupId;
 use model::ProcessId;
 use model::ReadAnswer;
+use model::Setting;
 use text::name::FILES;
 use text::name::file_at;
 use text::name::file_place;
@@ -34,9 +37,16 @@ use tree::rule::is_on;
 use tree::setting::controller_of;
 use tree::setting::setting_controller;
 
-// The longest text of cgroup.procs: every process number, each a line of four bytes at most. The array for any other file is
+// The longest text of cgroup.procs: every process number, each a line of four bytes at most. The arrays for the other files are
 // smaller, and so cleared sooner.
 const LONGEST_LISTING: usize = PROCESSES as usize * 4;
+
+// The longest text of io.max: a line for each device that a group holds, of 97 bytes at most and a newline.
+const MOST_DEVICES: usize = 4;
+
+const LONGEST_SHOWN: usize = 98;
+
+const LONGEST_DEVICES: usize = MOST_DEVICES * LONGEST_SHOWN;
 
 const LONGEST_OTHER: usize = 128;
 
@@ -58,9 +68,9 @@ fn is_present(t: &Tree, g: GroupId, file: File) -> bool
     }
 }
 
-// The text of a file other than cgroup.procs.
+// The text of a file other than cgroup.procs and io.max.
 fn render(t: &Tree, g: GroupId, file: File, out: &mut [u8]) -> usize
-    requires { ⌜ Ready (now t) (g .0) (now out) × (file ≢ File.Procs) ⌝ }
+    requires { ⌜ Ready (now t) (g .0) (now out) × Short file ⌝ }
     ensures { λ r. ⌜ Renders (now (t .entry)) (g .0) file (now (out .entry)) (now (out .exit)) r ⌝ }
 {
     match file {
@@ -81,13 +91,32 @@ fn read_procs(t: &Tree, g: GroupId, reply: &mut [u8]) -> ReadAnswer
     deliver(reply, &scratch[..end])
 }
 
+fn read_devices(t: &Tree, g: GroupId, reply: &mut [u8]) -> ReadAnswer
+    requires { ⌜ KeptAt (now t) (g .0) ⌝ }
+    ensures { λ r. ⌜ DeliversFile (now (t .entry)) (g .0) (File.Value Setting.IoMax) (now (reply .entry)) r (now (reply .exit)) ⌝ }
+{
+    let mut scratch = [0u8; LONGEST_DEVICES];
+    let end = put_devices(t, g, &mut scratch);
+    deliver(reply, &scratch[..end])
+}
+
 fn read_other(t: &Tree, g: GroupId, file: File, reply: &mut [u8]) -> ReadAnswer
-    requires { ⌜ KeptAt (now t) (g .0) × (file ≢ File.Procs) ⌝ }
+    requires { ⌜ KeptAt (now t) (g .0) × Short file ⌝ }
     ensures { λ r. ⌜ DeliversFile (now (t .entry)) (g .0) file (now (reply .entry)) r (now (reply .exit)) ⌝ }
 {
     let mut scratch = [0u8; LONGEST_OTHER];
     let end = render(t, g, file, &mut scratch);
     deliver(reply, &scratch[..end])
+}
+
+fn read_setting(t: &Tree, g: GroupId, s: Setting, reply: &mut [u8]) -> ReadAnswer
+    requires { ⌜ KeptAt (now t) (g .0) ⌝ }
+    ensures { λ r. ⌜ DeliversFile (now (t .entry)) (g .0) (File.Value s) (now (reply .entry)) r (now (reply .exit)) ⌝ }
+{
+    if let Setting::IoMax = s {
+        return read_devices(t, g, reply);
+    }
+    read_other(t, g, File::Value(s), reply)
 }
 
 // A file of a group. 22 its number out of range; 2 not live, or no such file there; 28 the reply shorter than the text. A refusal
@@ -112,6 +141,9 @@ pub fn read(tree: &Tree, group: GroupId, file: &[u8], reply: &mut [u8]) -> ReadA
     }
     if let File::Procs = found {
         return read_procs(tree, group, reply);
+    }
+    if let File::Value(s) = found {
+        return read_setting(tree, group, s, reply);
     }
     read_other(tree, group, found, reply)
 }

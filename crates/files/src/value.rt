@@ -1,10 +1,12 @@
 // The files that are one value: whether a group is populated, the counts, and the settings. No pass over the tree: what is
 // counted stands in the group's row.
 ghost use Prim.Native.Nat.{_≤_};
+ghost use mathlib.Core.Logic.{_≢_};
 ghost use lib.ListN.{length};
 ghost use Rattle.model.specs.Text.{ended};
 ghost use Rattle.model.specs.Settings.{limitText, valueText};
 ghost use Rattle.model.specs.declared.File.{File};
+ghost use Rattle.model.specs.declared.Setting.{Setting};
 ghost use Rattle.model.specs.declared.SettingValue.{SettingValue};
 ghost use Rattle.text.specs.Write.{Appended};
 ghost use Rattle.files.specs.Texts.{Ready, Renders};
@@ -64,14 +66,15 @@ fn put_limit_line(out: &mut [u8], limit: Limit) -> usize
     put_byte(out, end, 10)
 }
 
-// The whole text of a settings file.
+// The whole text of a settings file other than io.max.
 pub fn put_setting(t: &Tree, g: GroupId, s: Setting, out: &mut [u8]) -> usize
-    requires { ⌜ Ready (now t) (g .0) (now out) ⌝ }
+    requires { ⌜ Ready (now t) (g .0) (now out) × (s ≢ Setting.IoMax) ⌝ }
     ensures { λ r. ⌜ Renders (now (t .entry)) (g .0) (File.Value s) (now (out .entry)) (now (out .exit)) r ⌝ }
 {
     match s {
         Setting::CpuWeight => put_line(out, 0, weight(t, g)),
         Setting::CpuMax => put_bandwidth(out, quota(t, g), period(t, g)),
+        Setting::IoMax => 0,
         Setting::Max(r) => put_limit_line(out, shown_limit(r, limit(t, g, r))),
     }
 }

@@ -1,4 +1,4 @@
--- `files::reader::read` meets its contract: what is found is delivered by one of two functions. Assumes nothing.
+-- `files::reader::read` meets its contract: what is found is delivered by one of three functions. Assumes nothing.
 use Prim.Native.Nat.{ℕ, _<_}
 use native.Mathlib.Omega.{arith}
 use mathlib.Core.Bool.{true}
@@ -15,10 +15,11 @@ use Rattle.model.specs.declared.ReadAnswer.{ReadAnswer}
 use Rattle.text.specs.Name.{firstFile}
 use Rattle.text.proofs.NameLaws.{named-at, named-none}
 use Rattle.tree.specs.Layout.{view}
+use Rattle.tree.specs.Kept.{KeptAt}
 use Rattle.tree.specs.Calling.{Delivering}
 use Rattle.files.specs.Texts.{DeliversFile}
 use Rattle.tree.proofs.KeptLaws.{live-row}
-use Rattle.files.proofs.DeliveryLaws.{read-no-number, read-dead, read-unknown, read-not-present, read-delivered, delivers-procs, not-procs}
+use Rattle.files.proofs.DeliveryLaws.{read-no-number, read-dead, read-unknown, read-not-present, read-delivered, delivers-found, short-file}
 use Rattle.files.proofs.reader.read.Statement.{statement}
 use Rattle.files.proofs.reader.read.Tie as tie
 
@@ -109,6 +110,14 @@ delivered j d =
     read-delivered (a .tree .now) (a .group .0) (a .file .now) (a .reply .now) (low (i .before)) (live i) _ (found f)
     (sym (h .is-present .ensures) ∙ not-false _ (j .if4 .left)) d
 
+-- and its group is live
+kept : (j : tie.Else4) →
+    let a = j .before .before .before .before .before .before .before .before .before .before .before .args in
+    KeptAt (a .tree .now) (a .group .0)
+kept j =
+    let i = j .before .before .before .before .before in
+    record { kept = i .before .before .before .before .before .before .pre; live = live i }
+
 -- cgroup.procs
 returns-5 : tie.Need-returns-5
 returns-5 c =
@@ -117,21 +126,39 @@ returns-5 c =
     let j = m .before .before in
     let f = j .before .before in
     let a = f .before .before .before .before .before .before .before .before .before .args in
-    delivered j
-    (delivers-procs (a .tree .now) (a .group .0) (f .file-at .result) (m .enum-told .given .1) (w .read-procs .ensures))
+    delivered j (delivers-found (a .tree .now) (a .group .0) (m .enum-told .given .1) (w .read-procs .ensures))
 
-read-other-requires : tie.Need-read-other-requires
-read-other-requires c κs =
-    let y = c .before in
-    let i = y .before .before .before .before .before .before in
-    (record { kept = i .before .before .before .before .before .before .pre; live = live i }, not-procs _ (y .match .keys2))
+enum-known-found : tie.Need-enum-known-found
+enum-known-found c = search needs
+
+read-setting-requires : tie.Need-read-setting-requires
+read-setting-requires c κs = kept (c .before .before .before .before .before)
 
 same-length-2 : tie.Need-same-length-2
 same-length-2 c = search needs
 
--- another file
+-- a setting
 returns-6 : tie.Need-returns-6
-returns-6 c = let w = c .before .before in delivered (w .before .before .before) (w .read-other .ensures)
+returns-6 c =
+    let w = c .before .before in
+    let m = w .before .before .before in
+    let j = m .before .before .before in
+    let f = j .before .before in
+    let a = f .before .before .before .before .before .before .before .before .before .args in
+    delivered j (delivers-found (a .tree .now) (a .group .0) (m .found .given .1) (w .read-setting .ensures))
+
+read-other-requires : tie.Need-read-other-requires
+read-other-requires c κs =
+    let y = c .before in
+    let x = y .before in
+    (kept (x .before), short-file _ (x .match .keys2) (y .match2 .keys2))
+
+same-length-3 : tie.Need-same-length-3
+same-length-3 c = search needs
+
+-- another file
+returns-7 : tie.Need-returns-7
+returns-7 c = let w = c .before .before in delivered (w .before .before .before .before) (w .read-other .ensures)
 
 pub read-spec : {M : Type 1} → statement M
 read-spec =
@@ -149,6 +176,10 @@ read-spec =
     read-procs-requires
     same-length
     returns-5
-    read-other-requires
+    enum-known-found
+    read-setting-requires
     same-length-2
-    returns-6)
+    returns-6
+    read-other-requires
+    same-length-3
+    returns-7)

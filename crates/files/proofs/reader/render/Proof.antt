@@ -1,5 +1,5 @@
 -- `files::reader::render` meets its contract: each arm writes the file that it matches. Assumes nothing.
-use mathlib.Core.Path.{_≡_, ap, sym}
+use mathlib.Core.Path.{_≡_, ap, sym, _∙_}
 use borrow.Author.Needs.{needs}
 use Rattle.model.specs.Hierarchy.{factsOf}
 use Rattle.model.specs.Files.{contents}
@@ -46,10 +46,13 @@ enum-known-file-2 : tie.Need-enum-known-file-2
 enum-known-file-2 c = search needs
 
 put-setting-requires : tie.Need-put-setting-requires
-put-setting-requires c κs = search needs
+put-setting-requires c κs =
+    let m = c .before .before in
+    let p = m .before .before .before .pre in
+    (p .0, λ e. p .1 .not-devices (m .file2 .given .1 ∙ ap File.Value e))
 
 returns : tie.Need-returns
-returns c = absurd (c .before .before .before .pre .1 (c .enum-told .given .1))
+returns c = absurd (c .before .before .before .pre .1 .not-procs (c .enum-told .given .1))
 
 same-length : tie.Need-same-length
 same-length c = search needs
