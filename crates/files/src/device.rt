@@ -31,7 +31,7 @@ fn put_device(out: &mut [u8], at: usize, major: u64, minor: u64) -> usize
     put_number(out, colon, minor)
 }
 
-// A key, with what parts it from the text around it, and its limit.
+// A key, between a space and an equals sign, and its limit.
 fn put_pair(out: &mut [u8], at: usize, key: &[u8], limit: Limit) -> usize
     requires { ⌜ at + length (now key ++ limitText limit) ≤ length (now out) ⌝ }
     ensures { λ r. ⌜ Appended (now (out .entry)) at (now (key .entry) ++ limitText limit) (now (out .exit)) r ⌝ }
