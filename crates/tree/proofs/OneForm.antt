@@ -19,7 +19,7 @@ use Rattle.model.proofs.FunctionLaws.{split, whether}
 use Rattle.devices.specs.Slots.{freeSlot}
 use Rattle.devices.specs.declared.slot.Slot.{Slot}
 use Rattle.devices.proofs.PassLaws.{same-slots}
-use Rattle.tree.specs.Layout.{front, machineAt, rowWords, treeWords, word, sumField, sumIn, firstFlag, liveField, setField, firstWord, firstSlot, slotField, used, limitIn, placeIn, flagIn, slotIn, slotsIn, groupRow, processIn, view, SpareRow}
+use Rattle.tree.specs.Layout.{front, machineAt, rowWords, treeWords, word, sumField, sumIn, firstFlag, liveField, setField, firstSlot, slotField, used, limitIn, placeIn, flagIn, slotIn, slotsIn, groupRow, processIn, view, SpareRow}
 use Rattle.tree.specs.Kept.{countIn, Kept}
 use Rattle.tree.specs.OneForm.{OneForm}
 use Rattle.tree.specs.declared.sum.Counter.{Counter}
@@ -86,7 +86,7 @@ below P (suc n) (x ▹ b) k l = whether k n (λ e. rw e x) (λ ne. below P n b k
 
 -- a row is its group, its sums and zeros
 module _ (v w : ℕ → ℕ) (a : SpareRow v) (b : SpareRow w) (sums : (c : Counter) → v (sumField c) ≡ w (sumField c)) (e : groupRow v ≡ groupRow w) where
-  flag : (k : ℕ) → firstFlag ≤ k → k < firstWord → flagIn (v k) ≡ flagIn (w k) → v k ≡ w k
+  flag : (k : ℕ) → firstFlag ≤ k → k < firstSlot → flagIn (v k) ≡ flagIn (w k) → v k ≡ w k
   flag k from to f = flag-word (v k) (w k) (a .flags k from to) (b .flags k from to) f
 
   -- packed slots of one table are the same
@@ -109,20 +109,20 @@ module _ (v w : ℕ → ℕ) (a : SpareRow v) (b : SpareRow w) (sums : (c : Coun
 
   words-before : Below (λ k. v k ≡ w k) firstSlot
   words-before =
-      limit-word _ _ (ap (λ (g : Group). g .core .limit Processes) e)
-      ▹ limit-word _ _ (ap (λ (g : Group). g .core .limit Pages) e)
-      ▹ ap (λ (g : Group). g .core .own) e
+      flag (setField Pids) (omega arith) (omega arith) (ap (λ (g : Group). g .set Pids) e)
+      ▹ flag (setField Memory) (omega arith) (omega arith) (ap (λ (g : Group). g .set Memory) e)
+      ▹ flag (setField Io) (omega arith) (omega arith) (ap (λ (g : Group). g .set Io) e)
+      ▹ flag (setField Cpu) (omega arith) (omega arith) (ap (λ (g : Group). g .set Cpu) e)
+      ▹ flag liveField (omega arith) (omega arith) (ap (λ (g : Group). g .core .live) e)
       ▹ ap (λ (g : Group). g .cpu .period) e
       ▹ limit-word _ _ (ap (λ (g : Group). g .cpu .quota) e)
       ▹ ap (λ (g : Group). g .cpu .weight) e
       ▹ ap (λ (g : Group). g .owner) e
       ▹ ap (λ (g : Group). g .depth) e
+      ▹ limit-word _ _ (ap (λ (g : Group). g .core .limit Processes) e)
+      ▹ limit-word _ _ (ap (λ (g : Group). g .core .limit Pages) e)
+      ▹ ap (λ (g : Group). g .core .own) e
       ▹ ap (λ (g : Group). g .core .parent) e
-      ▹ flag (setField Pids) (omega arith) (omega arith) (ap (λ (g : Group). g .set Pids) e)
-      ▹ flag (setField Memory) (omega arith) (omega arith) (ap (λ (g : Group). g .set Memory) e)
-      ▹ flag (setField Io) (omega arith) (omega arith) (ap (λ (g : Group). g .set Io) e)
-      ▹ flag (setField Cpu) (omega arith) (omega arith) (ap (λ (g : Group). g .set Cpu) e)
-      ▹ flag liveField (omega arith) (omega arith) (ap (λ (g : Group). g .core .live) e)
       ▹ sums Children
       ▹ sums (Of Processes)
       ▹ sums (Of Pages)

@@ -21,7 +21,7 @@ use Rattle.model.proofs.FigureLaws.{between-le}
 use Rattle.devices.specs.Slots.{freeSlot, isFree, lineOf, tableOf, Packed, InOrder, rows}
 use Rattle.devices.specs.declared.slot.Slot.{Slot}
 use Rattle.devices.specs.declared.table.Slots.{Slots}
-use Rattle.tree.specs.Layout.{front, rowWords, firstFlag, firstSlot, slotWords, slotField, used, word, withWord, limitIn, slotIn, slotsIn, groupRow, view}
+use Rattle.tree.specs.Layout.{front, rowWords, firstWord, firstSlot, slotWords, slotField, used, word, withWord, limitIn, slotIn, slotsIn, groupRow, view}
 use Rattle.tree.specs.Changes.{GroupRow, Storable, StorableSlot, StorableSlots, SlotPut, Slotted, Wrote, ioSet}
 use Rattle.tree.specs.Kept.{KeptAt}
 use Rattle.tree.proofs.RowLaws.{RowPut, row-start, also, group-ext, wrote-slots}
@@ -119,7 +119,7 @@ row-with-slots v w e = group-ext w joined same
     joined : ℕ → ℕ
     joined k = pick (ltb k firstSlot) (v k) (w k)
 
-    same : (k : ℕ) → firstFlag ≤ k → k < rowWords → w k ≡ joined k
+    same : (k : ℕ) → firstWord ≤ k → k < rowWords → w k ≡ joined k
     same k _ l = split (ltb k firstSlot) (λ y. rw y (e k (ltb-true k firstSlot y))) (λ n. rw n)
 
 module _ {xs as′ bs cs ys : List ℕ} {g : ℕ} (s : Slots) (k : GroupRow xs g) (q : Packed (rows s)) (pa : SlotPut xs as′ g (slotField 0) (s .a))
