@@ -23,7 +23,7 @@ noProcessNumber p = leb processes p
 abbrev pub mayWrite : Tree → ℕ → ℕ → Bool
 mayWrite t user g = eqb user 0 || eqb user (owners t g)
 
--- "the root has all three, others what is on"
+-- "the root has all three, others what is on"; with order 1 all four
 abbrev pub available : Tree → Controller → ℕ → Bool
 available t c g = eqb g 0 || on t c g
 
