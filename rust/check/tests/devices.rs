@@ -22,6 +22,7 @@ both! {
     written_back
     longest
     reset
+    apart
 }
 
 /// A host where io is on in group 1.
@@ -108,6 +109,20 @@ fn malformed_lines<H: Calls>() {
     let mut host: H = with_io();
     assert_eq!(write(&mut host, "8:16 rbps=5"), 0);
     for line in [
+        "8:16 wbps=2 wbps=2",
+        "8:16 rbps=1 wbps=2 riops=3 wiops=4 rbps=1",
+        "8:16 rbps=1 wbps=2 riops=3 wiops=4 x",
+        "8:16 rbps=1 rbps=max",
+        "8:16 rbps=max rbps=1",
+        "8:16 rbps=1 rbps=x",
+        "8:16 iops=max",
+        "8:16 xriops=1",
+        "8:16 rbps=1 iops=2",
+        "8:16 wiops=1 rbps=x",
+        "8:16 max",
+        "max:16",
+        "8 rbps=1 wbps=1 riops=1 wiops=1",
+        ":16 rbps=1 wbps=1 riops=1 wiops=1",
         "",
         " ",
         "\n",
@@ -353,4 +368,45 @@ fn reset<H: Calls>() {
     evening.reads(2, "io.max", "");
     evening.succeed([setting(0, 2, "io.max", line), remove(0, 2), make(0, 0, 2)]);
     evening.reads(2, "io.max", "");
+}
+
+/// Four devices bar no other setting; no other call, and no other controller that leaves, changes
+/// them; they change no other setting; and they take no room in a group beside or below.
+fn apart<H: Calls>() {
+    const DEVICES: &str = "8:0 rbps=1 wbps=max riops=max wiops=max\n\
+                           8:1 rbps=max wbps=2 riops=max wiops=max\n\
+                           8:2 rbps=max wbps=max riops=3 wiops=max\n\
+                           8:3 rbps=max wbps=max riops=max wiops=4\n";
+    let mut evening = Evening::<H>::of(8);
+    evening.succeed([
+        make(0, 0, 1),
+        make(0, 0, 3),
+        control(0, 0, ALL),
+        admit(5, 0),
+        procs(0, 1, "5"),
+    ]);
+    evening.succeed(
+        ["8:0 rbps=1", "8:1 wbps=2", "8:2 riops=3", "8:3 wiops=4"]
+            .map(|line| setting(0, 1, "io.max", line)),
+    );
+    evening.succeed([setting(0, 1, "cpu.weight", "5"), setting(0, 1, "cpu.max", "2000 5000")]);
+    evening.succeed([setting(0, 1, "cpu.max", "3000"), setting(0, 1, "memory.max", "8192")]);
+    evening.succeed([setting(0, 1, "pids.max", "3")]);
+    evening.granted(charge(5, 2), 2);
+    evening.granted(fork(5, 6), 2);
+    evening.succeed([release(1, 1), hand_over(0, 1, 7)]);
+    evening.reads(1, "io.max", DEVICES);
+    evening.succeed(["8:0 rbps=max", "8:0 rbps=1"].map(|line| setting(0, 1, "io.max", line)));
+    evening.reads(1, "cpu.weight", "5\n");
+    evening.reads(1, "cpu.max", "3000 5000\n");
+    evening.reads(1, "memory.max", "8192\n");
+    evening.reads(1, "pids.max", "3\n");
+    evening.succeed([setting(0, 3, "io.max", "9:0 rbps=1"), procs(0, 0, "5"), procs(0, 0, "6")]);
+    evening.succeed([control(0, 1, "+io"), make(0, 1, 2)]);
+    evening.reads(2, "io.max", "");
+    evening.succeed([setting(0, 2, "io.max", "9:0 rbps=1"), control(0, 0, "-memory -pids")]);
+    evening.reads(1, "io.max", DEVICES);
+    evening.succeed([control(0, 1, "-io"), control(0, 0, "-io")]);
+    evening.reads(1, "cpu.weight", "5\n");
+    evening.reads(1, "cpu.max", "3000 5000\n");
 }
