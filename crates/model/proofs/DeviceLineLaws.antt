@@ -7,22 +7,23 @@ use mathlib.Core.List.{List, [], _∷_, _++_}
 use mathlib.Core.Logic.{_≢_}
 use mathlib.Core.Option.{some}
 use mathlib.Core.Path.{_≡_, refl, ap, _∙_}
+use lib.Dec.{eqb}
 use lib.ListN.{length, length-append}
-use borrow.Author.Tests.{eq-eqb, ne-eqb, lt-leb}
+use borrow.Author.Tests.{eqb-true, eq-eqb, ne-eqb, lt-leb}
 use Rattle.model.specs.Functions.{All}
 use Rattle.model.specs.Sizes.{deviceNumbers, largestRate}
 use Rattle.model.specs.Text.{newline, space, sameBytes, words, isDigit, numberWord, decimal, spaced}
 use Rattle.model.specs.Names.{named}
 use Rattle.model.specs.Devices.{keys, pairOf, pairsOf}
-use Rattle.model.specs.Figures.{limitText}
-use Rattle.model.specs.DeviceLines.{colon, equalsSign, keyName, keyNamed, before, after, noPairs, isGiven, withPair, pairsFrom, deviceText, rateIn, pairText, pairTexts, lineText}
+use Rattle.model.specs.Figures.{limitWord, limitText}
+use Rattle.model.specs.DeviceLines.{colon, equalsSign, keyName, keyNamed, before, after, noPairs, isGiven, withPair, pairWord, pairsFrom, deviceText, rateIn, pairText, pairTexts, lineText}
 use Rattle.model.specs.declared.Limit.{Limit}
 use Rattle.model.specs.declared.Key.{Key}
 use Rattle.model.specs.declared.Key.the-variants.{Rbps, Wbps, Riops, Wiops}
 use Rattle.model.specs.declared.Pair.{Pair}
 use Rattle.model.specs.declared.Pair.the-variants.{Absent, Given}
 use Rattle.model.specs.declared.Pairs.{Pairs}
-use Rattle.model.proofs.FunctionLaws.{all-append}
+use Rattle.model.proofs.FunctionLaws.{split, all-append}
 use Rattle.model.proofs.TextLaws.{IsWord, Unbroken, words-spaced, unbroken-spaced}
 use Rattle.model.proofs.DecimalLaws.{decimal-without, length-decimal, numberWord-decimal}
 use Rattle.model.proofs.FigureLaws.{limitWord-limitText, limitText-without, length-limitText}
@@ -38,6 +39,15 @@ module _ (b : ℕ) where
   unfolding All after
   after-cut [] v h = rw (eq-eqb b b refl)
   after-cut (x ∷ xs) v h = rw (ne-eqb x b (h .0)) (after-cut xs v (h .1))
+
+  -- with a part after b, the word is its two parts
+  pub cut-parts : (w : List ℕ) → after b w ≢ [] → w ≡ before b w ++ (b ∷ after b w)
+  unfolding before after
+  cut-parts [] h = absurd (h refl)
+  cut-parts (x ∷ xs) h =
+      split (eqb x b)
+      (λ e. rw e (ap (λ y. y ∷ xs) (eqb-true x b e)))
+      (λ e. rw e (ap (λ (l : List ℕ). x ∷ l) (cut-parts xs (rw e at h))))
 
 -- Keys.
 pub keyNamed-keyName : (k : Key) → keyNamed (keyName k) ≡ some k
@@ -64,12 +74,16 @@ module _ (a b : ℕ) where
   minor-back = rw (after-cut colon (decimal a) (decimal b) (decimal-without colon a refl)) (numberWord-decimal b)
 
 -- a pair of a key that was not given
+pub pairWord-pair : (p : Pairs) (k : Key) (l : Limit) (v : List ℕ) → limitWord v ≡ some l → isGiven (pairOf p k) ≡ false
+    → pairWord p (keyName k ++ (equalsSign ∷ v)) ≡ some (withPair k l p)
+pairWord-pair p k l v e h =
+    let free : All (λ b. b ≢ equalsSign) (keyName k) = keyName-without equalsSign k (omega arith) in
+    rw (before-cut equalsSign (keyName k) v free, after-cut equalsSign (keyName k) v free, keyNamed-keyName, e, h)
+
 pairsFrom-pair : (p : Pairs) (k : Key) (l : Limit) (ws : List (List ℕ)) → isGiven (pairOf p k) ≡ false
     → pairsFrom p (pairText k l ∷ ws) ≡ pairsFrom (withPair k l p) ws
 unfolding pairsFrom
-pairsFrom-pair p k l ws h =
-    let free : All (λ b. b ≢ equalsSign) (keyName k) = keyName-without equalsSign k (omega arith) in
-    rw (before-cut equalsSign (keyName k) (limitText l) free, after-cut equalsSign (keyName k) (limitText l) free, keyNamed-keyName, limitWord-limitText, h, pairsFrom)
+pairsFrom-pair p k l ws h = rw (pairWord-pair p k l (limitText l) (limitWord-limitText l) h, pairsFrom)
 
 -- all four pairs
 module _ (l : Key → Limit) where

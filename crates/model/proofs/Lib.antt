@@ -18,6 +18,7 @@ pub mod DeviceLineLaws
 pub mod SettingLaws
 pub mod PieceLaws
 pub mod AllowedLaws
+pub mod DeviceFormLaws
 pub mod DeviceRuleLaws
 pub mod SettingTextLaws
 pub mod Preservation

@@ -29,6 +29,7 @@ use Rattle.model.specs.Lists.{Accepted, log, bookAfter}
 use Rattle.model.specs.Containment.{OwnsInside, Contained, OneKind, NeverAcross}
 use Rattle.model.specs.Marks.{AtLastWrite, MarkIs}
 use Rattle.model.specs.Totals.{Balanced}
+use Rattle.model.specs.DeviceForm.{DeviceForm}
 use Rattle.model.specs.DeviceRules.{DeviceRules}
 use Rattle.model.specs.DeviceBook.{noAccount, accountOf, accountAfter, Accounted}
 use Rattle.model.specs.declared.Resource.{Resource}
@@ -132,6 +133,7 @@ pub record Demand2 : Type 0 where
   pub lowest : (t : Tree) → WellFormed t → Lowest t
   pub writeBack : (t : Tree) → WellFormed t → WriteBack t
   pub devices : DeviceRules
+  pub deviceForm : (ws : List (List ℕ)) → DeviceForm ws
   pub contained : (t : Tree) → WellFormed t → Contained t
   pub oneKind : (t : Tree) → WellFormed t → OneKind t
   pub never : (t : Tree) → WellFormed t → NeverAcross t

@@ -23,6 +23,7 @@ pub mod Lists
 pub mod Containment
 pub mod Marks
 pub mod Totals
+pub mod DeviceForm
 pub mod DeviceRules
 pub mod DeviceBook
 pub mod Demands
