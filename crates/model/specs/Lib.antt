@@ -25,6 +25,7 @@ pub mod Marks
 pub mod Totals
 pub mod DeviceRules
 pub mod DeviceBook
+pub mod DeviceReplies
 pub mod Demands
 pub mod Worked
 pub mod Refusals
