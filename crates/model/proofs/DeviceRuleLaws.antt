@@ -32,21 +32,21 @@ max-none (Figure n) h = clash false h refl
 all-max-none : (l : Key → Limit) → allMax l ≡ true → (k : Key) → l k ≡ NoLimit
 all-max-none l h k = max-none (l k) (of-keys (λ j. isMax (l j)) h k)
 
-none-all-max : (l : Key → Limit) → ((k : Key) → l k ≡ NoLimit) → allMax l ≡ true
+pub none-all-max : (l : Key → Limit) → ((k : Key) → l k ≡ NoLimit) → allMax l ≡ true
 none-all-max l h = every-key (λ j. isMax (l j)) (λ k. rw (h k))
 
 -- Look-ups.
 module _ (d : ℕ) (x : DeviceLimits) (xs : List DeviceLimits) (k : Key) where
-  at-first : x .device ≡ d → limitsAt d (x ∷ xs) k ≡ x .limit k
+  pub at-first : x .device ≡ d → limitsAt d (x ∷ xs) k ≡ x .limit k
   unfolding limitsAt
   at-first e = rw (eq-eqb (x .device) d e)
 
-  at-later : x .device ≢ d → limitsAt d (x ∷ xs) k ≡ limitsAt d xs k
+  pub at-later : x .device ≢ d → limitsAt d (x ∷ xs) k ≡ limitsAt d xs k
   unfolding limitsAt
   at-later ne = rw (ne-eqb (x .device) d ne)
 
 -- a device before all of a table
-at-before : (d : ℕ) (xs : List DeviceLimits) → Ascending (suc d) xs → (k : Key) → limitsAt d xs k ≡ NoLimit
+pub at-before : (d : ℕ) (xs : List DeviceLimits) → Ascending (suc d) xs → (k : Key) → limitsAt d xs k ≡ NoLimit
 unfolding Ascending limitsAt
 at-before d [] a k = refl
 at-before d (x ∷ xs) a k =

@@ -31,6 +31,7 @@ pub mod Books
 pub mod Bounds
 pub mod States
 pub mod DeviceBooks
+pub mod DeviceReplyLaws
 pub mod Marks
 pub mod Reached
 pub mod FileReads

@@ -32,6 +32,7 @@ use Rattle.model.specs.Totals.{Balanced}
 use Rattle.model.specs.DeviceForm.{DeviceForm}
 use Rattle.model.specs.DeviceRules.{DeviceRules}
 use Rattle.model.specs.DeviceBook.{noAccount, accountOf, accountAfter, Accounted}
+use Rattle.model.specs.DeviceReplies.{DeviceRefusal, DeviceReading}
 use Rattle.model.specs.declared.Resource.{Resource}
 use Rattle.model.specs.declared.Resource.the-variants.{Pages, Processes}
 use Rattle.model.specs.declared.Limit.the-variants.{Figure}
@@ -134,6 +135,8 @@ pub record Demand2 : Type 0 where
   pub writeBack : (t : Tree) → WellFormed t → WriteBack t
   pub devices : DeviceRules
   pub deviceForm : (ws : List (List ℕ)) → DeviceForm ws
+  pub deviceRefusal : (t : Tree) → WellFormed t → DeviceRefusal t
+  pub deviceReading : (t : Tree) → WellFormed t → DeviceReading t (accountOf t)
   pub contained : (t : Tree) → WellFormed t → Contained t
   pub oneKind : (t : Tree) → WellFormed t → OneKind t
   pub never : (t : Tree) → WellFormed t → NeverAcross t
@@ -181,8 +184,9 @@ pub record Demand3 (t : Tree) (b : Book) (cs : List Call) : Type 0 where
       → Accepted (run t xs) c
       → NoneOver r (bookAfter t b (xs ++ (c ∷ []))) (groupOf (bookAfter t b (xs ++ (c ∷ [])) .place p))
   pub balanced : Balanced t (log t cs) (run t cs)
-  -- order 1: io.max keeps what the accepted writes gave, and nothing else
+  -- order 1: io.max keeps what the accepted writes gave, and nothing else, and readers see it
   pub devices : Accounted (run t cs) (accountAfter t b (accountOf t) cs)
+  pub deviceReading : DeviceReading (run t cs) (accountAfter t b (accountOf t) cs)
 
 -- "Take every list of calls .. from a fresh tree of whatever machine size." Where the list begins a group has no limit, so each
 -- mark is from a write, and so is each limit of a device; and a user other than 0 owns nothing.
@@ -192,6 +196,7 @@ pub record FromFresh (m : ℕ) : Type 0 where
       → AtLastWrite (fresh m) cs g (bookAfter (fresh m) (freshBook m) cs .mark g)
   pub owns : (user d : ℕ) → user ≢ 0 → OwnsInside (fresh m) user d
   pub devices : (cs : List Call) → Accounted (run (fresh m) cs) (accountAfter (fresh m) (freshBook m) noAccount cs)
+  pub deviceReading : (cs : List Call) → DeviceReading (run (fresh m) cs) (accountAfter (fresh m) (freshBook m) noAccount cs)
 
 -- What is said of marks settles them.
 abbrev pub OneMark : Type 0

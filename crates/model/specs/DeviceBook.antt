@@ -2,7 +2,8 @@
 -- a line changes; document 01's reset rule, which takes in the new file, in the words that the book has for the other limits. The
 -- account is the limits by group, device and key, with no table, no order and no number of devices. It is fed what the book is fed,
 -- asks the book who is whose child, and shares none of the calls' effects. With the calls it shares types, a device's number
--- (`deviceOf`), who is a child (`childOf`) and the reading of lines (`lineValue`, `pairOf`, `asked`, `isDropped`). Assumes nothing.
+-- (`deviceOf`), who is a child (`childOf`) and the reading of lines (`lineValue`, `pairOf`, `asked`, `isDropped`), and where it meets a
+-- tree the look-up of a device (`limitsAt`); DeviceReplies says it of the text that readers get. Assumes nothing.
 use Prim.Native.Nat.{ℕ}
 use mathlib.Core.List.{List, [], _∷_}
 use mathlib.Core.Option.{Option, none, some}

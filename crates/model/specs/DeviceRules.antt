@@ -1,5 +1,6 @@
--- What order 1 says of io.max, as statements about the definitions: what a line changes, when it is 28, and that one table has one
--- description. proofs/DeviceRuleLaws.antt shows all of it. Assumes nothing.
+-- What order 1 says of io.max, as statements about the definitions: what a line changes, when it finds no room, and that one table has
+-- one description. What calls answer, 28 and the text of a read, is in DeviceReplies. proofs/DeviceRuleLaws.antt shows all of it.
+-- Assumes nothing.
 use Prim.Native.Nat.{ℕ, _<_}
 use mathlib.Core.Bool.{true, false}
 use mathlib.Core.List.{List}
@@ -20,7 +21,8 @@ pub record Numbered (a b c d : ℕ) : Type 0 where
   pub ascending : deviceOf a b < deviceOf c d → (a < c) ⊎ ((a ≡ c) × (b < d))
   pub apart : deviceOf a b ≡ deviceOf c d → (a ≡ c) × (b ≡ d)
 
--- a line for a device: its limits are what the line gives and else as before, and no other device's limits change
+-- A line for a device: the table has the limits of `changed` there, and no other device's limits change. The effect goes by `changed`
+-- too; what ties it to the line's pairs is the account of DeviceBook, by `Accounted`.
 pub record Written (st : Settings) (a b : ℕ) (p : Pairs) : Type 0 where
   pub here : (k : Key) → limitsAt (deviceOf a b) (assign (Device a b p) st .io) k ≡ changed p (limitsAt (deviceOf a b) (st .io)) k
   pub elsewhere : (e : ℕ) → e ≢ deviceOf a b → (k : Key) → limitsAt e (assign (Device a b p) st .io) k ≡ limitsAt e (st .io) k
@@ -36,7 +38,7 @@ pub record DeviceRules : Type 0 where
   pub written : (st : Settings) (a b : ℕ) (p : Pairs) → Table (st .io) → Written st a b p
   -- "no pair is no change"
   pub unchanged : (st : Settings) (a b : ℕ) → Table (st .io) → assign (Device a b noPairs) st ≡ st
-  -- 28, and only then
+  -- no room exactly for a fifth device; that 28 is answered exactly then is `DeviceRefusal` of DeviceReplies
   pub fifth : (st : Settings) (a b : ℕ) (p : Pairs) → Table (st .io) → hasRoom st (Device a b p) ≡ false → Fifth st a b p
   pub refused : (st : Settings) (a b : ℕ) (p : Pairs) → Table (st .io) → Fifth st a b p → hasRoom st (Device a b p) ≡ false
   -- tables with the same limits are the same

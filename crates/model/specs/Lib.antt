@@ -26,6 +26,7 @@ pub mod Totals
 pub mod DeviceForm
 pub mod DeviceRules
 pub mod DeviceBook
+pub mod DeviceReplies
 pub mod Demands
 pub mod Worked
 pub mod Refusals
