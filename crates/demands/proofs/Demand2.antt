@@ -159,6 +159,9 @@ demand-2-of-the-code =
     record {
       exactly = exact;
       room = λ r n p q k a e. room-told r n p q k a e;
+      fifth = λ {xs} user g file line k a.
+          let d = demands .second .deviceRefusal (view xs) (k .formed) in
+          ((λ e. d .only user g file line (sym (a .answer) ∙ e)), (λ h. a .answer ∙ d .always user g file line h));
       question = λ {line} e. (firstBadWord line, e, demands .second .question line .answer);
       part = λ {r} {s} p.
           let f = demands .second .question (now s) .answer in

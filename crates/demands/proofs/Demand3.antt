@@ -18,6 +18,7 @@ use Rattle.model.specs.Lists.{log}
 use Rattle.model.specs.Marks.{AtLastWrite, MarkIs}
 use Rattle.model.specs.Totals.{Balanced}
 use Rattle.model.specs.DeviceBook.{noAccount, accountOf, accountFed, Accounted}
+use Rattle.model.specs.DeviceReplies.{DeviceReading}
 use Rattle.model.specs.Demands.{Alike, Bounded, NoneOver}
 use Rattle.model.specs.Demands as D
 use Rattle.model.specs.declared.Resource.{Resource}
@@ -102,6 +103,8 @@ module _ {xs ys : List ℕ} {es : List Entry} (b : Book) (f : Followed xs es ys)
         balanced = subst₂ (λ (l : List Entry) (u : Tree). Balanced (view xs) l u) (sym (f .entries)) (sym (f .tree)) (d .balanced);
         devices =
             subst₂ (λ (l : List Entry) (u : Tree). Accounted u (accountFed b (accountOf (view xs)) l)) (sym (f .entries)) (sym (f .tree)) (d .devices);
+        deviceReading =
+            subst₂ (λ (l : List Entry) (u : Tree). DeviceReading u (accountFed b (accountOf (view xs)) l)) (sym (f .entries)) (sym (f .tree)) (d .deviceReading);
       }
 
 -- the definitions' demand, from the tree of fresh words

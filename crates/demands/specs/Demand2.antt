@@ -25,6 +25,7 @@ use Rattle.model.specs.Effects.{effect}
 use Rattle.model.specs.Replies.{Asks, reply}
 use Rattle.model.specs.Book.{Entry}
 use Rattle.model.specs.Containment.{caller, OwnsInside, NoneAcross, GivesOutside}
+use Rattle.model.specs.DeviceReplies.{FifthWrite}
 use Rattle.model.specs.Demands.{StoppedAt}
 use Rattle.model.specs.declared.Resource.{Resource}
 use Rattle.model.specs.declared.Setting.{Setting}
@@ -76,6 +77,9 @@ pub record Demand2 : Type 0 where
   pub exactly : {xs ys : List ℕ} {c : Call} {n : ℕ} → Answered xs ys c n → Exactly xs ys c n
   pub room : {xs ys : List ℕ} {c : Call} {k : ℕ} {told : List ℕ} (r : Resource) (n p : ℕ) → Asks r n p c → Kept xs
       → Answered xs ys c k → told ≡ roomWords (reply (view xs) c) → RoomTold (view xs) r n p k told
+  -- order 1: a write of a setting is answered 28 exactly where its device is a fifth
+  pub fifth : {xs ys : List ℕ} {n : ℕ} (user g : ℕ) (file line : List ℕ) → Kept xs → Answered xs ys (writeSetting user g file line) n
+      → (n ≡ 28 → FifthWrite (view xs) user g file line) × (FifthWrite (view xs) user g file line → n ≡ 28)
   -- told as two words, and as a part of the lent line
   pub question : {line told : List ℕ} → told ≡ partWords (firstBadWord line)
       → (p : Part) × (told ≡ p .start ∷ p .size ∷ []) × FirstBad line p

@@ -12,6 +12,7 @@ use Rattle.model.specs.Book.{Book, inBook, Entry, freshBook, bookOf, fed}
 use Rattle.model.specs.Marks.{AtLastWrite, MarkIs}
 use Rattle.model.specs.Totals.{Balanced}
 use Rattle.model.specs.DeviceBook.{noAccount, accountOf, accountFed, Accounted}
+use Rattle.model.specs.DeviceReplies.{DeviceReading}
 use Rattle.model.specs.Demands.{Alike, Bounded, Adds, NoneOver}
 use Rattle.model.specs.declared.Resource.{Resource}
 use Rattle.model.specs.declared.Resource.the-variants.{Pages}
@@ -27,7 +28,7 @@ use Rattle.demands.specs.Texts.{FindsText}
 -- The words xs and the book b before the run, its calls with the numbers answered, the words ys after it. They keep the invariant and
 -- stand alike with the book, and a read of memory.current or pids.current delivers the book's figure. Every mark is the usage at the
 -- last write, or at the start. Every accepted charge or birth left no group on its way up over its limit. Nothing is lost. io.max has
--- what accepted writes gave.
+-- what accepted writes gave, and shows it.
 pub record Kept3 (xs : List ℕ) (b : Book) (es : List Entry) (ys : List ℕ) : Type 0 where
   pub kept : Kept ys
   pub alike : Alike (view ys) (fed b es)
@@ -41,6 +42,7 @@ pub record Kept3 (xs : List ℕ) (b : Book) (es : List Entry) (ys : List ℕ) : 
       → NoneOver r (fed b (before ++ (record { call = c; number = 0 } ∷ []))) (groupOf (fed b (before ++ (record { call = c; number = 0 } ∷ [])) .place p))
   pub balanced : Balanced (view xs) es (view ys)
   pub devices : Accounted (view ys) (accountFed b (accountOf (view xs)) es)
+  pub deviceReading : DeviceReading (view ys) (accountFed b (accountOf (view xs)) es)
 
 -- from any words that keep the invariant, with the book of what they stand for; and from those of a fresh tree
 pub record Demand3 : Type 0 where
