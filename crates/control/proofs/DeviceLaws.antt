@@ -12,7 +12,7 @@ use Rattle.model.specs.Functions.{All}
 use Rattle.model.specs.Sizes.{deviceNumbers, mostDevices}
 use Rattle.model.specs.Devices.{DeviceLimits, deviceOf, afterLine}
 use Rattle.model.specs.DeviceLines.{deviceIn, pairsIn}
-use Rattle.model.specs.Tree.{Group, Settings, withIo, withSettings, settingsAt}
+use Rattle.model.specs.Tree.{Settings, withIo, withSettings, settingsAt}
 use Rattle.model.specs.Settings.{inRange, assign, hasRoom, shownDevice, shown, Allowed}
 use Rattle.model.specs.Effects.{written}
 use Rattle.model.specs.declared.Pairs.{Pairs}

@@ -1,4 +1,4 @@
--- The checks of a value, what a write is given by them, and when a value can be stored. Assumes nothing.
+-- The checks of a value, what a write is given by them, when a value can be stored, and what storing it leaves. Assumes nothing.
 use Prim.Native.Nat.{ℕ}
 use mathlib.Core.Bool.{Bool, true, false}
 use mathlib.Core.List.{List, [], _∷_}

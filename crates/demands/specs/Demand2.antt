@@ -1,4 +1,4 @@
--- Demand 2 of the code, from the contracts alone: exactly when; what charge and fork tell; the question about a control line; texts
+-- Demand 2 of the code, from the contracts alone: exactly when; what charge and fork tell; when a device is a fifth; the question about a control line; texts
 -- delivered and written back; containment. Assumes nothing.
 use Prim.Native.Nat.{ℕ, suc, _+_, _≤_}
 use mathlib.Core.Bool.{true}

@@ -1,14 +1,14 @@
 -- A pass over packed, ascending slots is `withDevice` of the table; its last slot is free exactly where there is room. Assumes nothing.
 use Prim.Native.Nat.{ℕ, suc, _-_, _≤_, _<_}
 use native.Mathlib.Omega.{arith}
-use mathlib.Core.Bool.{true, false, _&&_}
+use mathlib.Core.Bool.{true, false}
 use mathlib.Core.List.{List, [], _∷_, _++_}
 use mathlib.Core.Logic.{_≢_}
 use mathlib.Core.Path.{_≡_, refl, ap, sym, _∙_, subst}
 use lib.Dec.{eqb, ltb, leb}
 use lib.ListN.{length}
 use borrow.Author.Tests.{eqb-true, eqb-false, eq-eqb, ne-eqb, ltb-true, ltb-false, lt-ltb, le-ltb, le-leb, lt-leb}
-use Rattle.model.specs.Functions.{pick, All}
+use Rattle.model.specs.Functions.{All}
 use Rattle.model.specs.Sizes.{mostDevices}
 use Rattle.model.specs.Devices.{DeviceLimits, allMax, withDevice, Ascending}
 use Rattle.model.proofs.FunctionLaws.{split}

@@ -1,4 +1,4 @@
-// The files that are one value: whether a group is populated, the counts, and the settings. No pass over the tree: what is
+// The files that are one value: whether a group is populated, the counts, and the settings but io.max. No pass over the tree: what is
 // counted stands in the group's row.
 ghost use Prim.Native.Nat.{_≤_};
 ghost use mathlib.Core.Logic.{_≢_};
@@ -74,6 +74,7 @@ pub fn put_setting(t: &Tree, g: GroupId, s: Setting, out: &mut [u8]) -> usize
     match s {
         Setting::CpuWeight => put_line(out, 0, weight(t, g)),
         Setting::CpuMax => put_bandwidth(out, quota(t, g), period(t, g)),
+        // not asked: `read_setting` goes another way
         Setting::IoMax => 0,
         Setting::Max(r) => put_limit_line(out, shown_limit(r, limit(t, g, r))),
     }

@@ -12,7 +12,7 @@ use lib.ListN.{length, length-append}
 use borrow.Author.Tests.{ltb-true}
 use Rattle.model.specs.Functions.{All}
 use Rattle.model.specs.Sizes.{deviceNumbers, longestShown}
-use Rattle.model.specs.Devices.{majorOf, minorOf, pairsOf, DeviceLimits}
+use Rattle.model.specs.Devices.{majorOf, minorOf, DeviceLimits}
 use Rattle.model.specs.Tree.{Settings}
 use Rattle.model.specs.Text.{newline, space, words, oneWord, decimal}
 use Rattle.model.specs.Figures.{limitText}

@@ -71,7 +71,7 @@ noGroup =
 abbrev pub noProcess : Process
 noProcess = record { place = nowhere; user = 0 }
 
--- cpu.weight 100, cpu.max "max 100000"; io.max has no device
+-- cpu.weight 100, cpu.max "max 100000"
 abbrev pub defaultCpu : CpuSettings
 defaultCpu = record { weight = 100; quota = NoLimit; period = 100000 }
 
@@ -112,7 +112,7 @@ abbrev pub withSettings : Settings → Group → Group
 withSettings s g =
     record { core = withLimits (s .limit) (g .core); depth = g .depth; owner = g .owner; set = g .set; cpu = s .cpu; io = s .io }
 
--- the settings of a group when it is made: "Settings and defaults"
+-- the settings of a group when it is made: "Settings and defaults"; in io.max no device
 abbrev pub newSettings : Settings
 newSettings = record { limit = λ r. NoLimit; cpu = defaultCpu; io = [] }
 

@@ -3,7 +3,7 @@ ghost use mathlib.Core.Path.{_≡_};
 ghost use Prim.Native.Nat.{_+_, _≤_, _<_};
 ghost use Rattle.model.specs.Sizes.{groups};
 ghost use Rattle.devices.specs.Slots.{tableOf, Packed, rows};
-ghost use Rattle.tree.specs.Layout.{rowWords, firstSlot, slotWords, word, slotIn, view};
+ghost use Rattle.tree.specs.Layout.{rowWords, slotWords, word, slotIn, view};
 ghost use Rattle.tree.specs.Changes.{GroupRow, StorableSlot, StorableSlots, SlotPut, Slotted, Wrote, ioSet};
 use super::layout::FRONT;
 use super::layout::ROW;

@@ -32,7 +32,7 @@ const DEVICES: [&[u8]; 3] = [
     b"8:32 rbps=2097152 wbps=1048576 riops=2400 wiops=120",
     b"8:48 rbps=2097152 wbps=1048576 riops=2400 wiops=120",
 ];
-/// Comes before them, and is held nowhere.
+/// Comes before them; `full_tree` does not write it.
 pub const FIRST_DEVICE: &[u8] = b"8:0 rbps=2097152 wbps=1048576 riops=2400 wiops=120";
 
 /// Where everything stands in the full tree.

@@ -1,5 +1,5 @@
-//! The calls. Each answers as document 01 says, refusals in the order of its checks; a refused call
-//! changes nothing.
+//! The calls. Each answers as document 01 and order 1 of document 02 say, refusals in the order of
+//! its checks; a refused call changes nothing.
 
 use std::fmt;
 
@@ -175,8 +175,8 @@ impl Host {
     /// # Ok::<(), Refusal>(())
     /// ```
     ///
-    /// A line for io.max is one device; a key that it does not give keeps what it had, and a device
-    /// whose limits are all "max" is not held:
+    /// A line for io.max is one device (several lines at once are EINVAL); a key that it does not give
+    /// keeps what it had, and a device whose limits are all "max" is not held:
     ///
     /// ```
     /// # use shootspiral::{GroupId, Host, Refusal, User, file};

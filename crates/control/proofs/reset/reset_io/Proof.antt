@@ -1,5 +1,4 @@
 -- `control::reset::reset_io` meets its contract: with no store the group stays as it is. Assumes nothing.
-use mathlib.Core.Path.{sym, subst}
 use borrow.Author.Tests.{not-true, not-false}
 use borrow.Author.Needs.{needs}
 use Rattle.control.proofs.WroteLaws.{wrote-group-as, wrote-none}

@@ -4,7 +4,6 @@ use mathlib.Core.Path.{_≡_, sym, subst}
 use borrow.Author.Tests.{not-true, not-false}
 use borrow.Author.Needs.{needs}
 use Rattle.model.specs.Calls.{Call, writeSetting}
-use Rattle.tree.specs.Layout.{view}
 use Rattle.tree.proofs.CallLaws.{call-refused}
 use Rattle.control.specs.Values.{Vetted}
 use Rattle.control.specs.declared.setting.Given.{Given}

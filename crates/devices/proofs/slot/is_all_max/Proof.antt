@@ -1,6 +1,5 @@
 -- `devices::slot::is_all_max` meets its contract: one key after another. Assumes nothing.
-use mathlib.Core.Bool.{Bool, true, false}
-use mathlib.Core.Path.{_≡_, sym, _∙_}
+use mathlib.Core.Path.{sym, _∙_}
 use borrow.Author.Needs.{needs}
 use borrow.Author.Tests.{not-true, not-false}
 use Rattle.devices.proofs.SlotLaws.{limited-rbps, limited-wbps, limited-riops, limited-wiops}
