@@ -8,26 +8,35 @@ use mathlib.Core.Path.{_≡_, refl, ap, sym, _∙_, subst}
 use lib.Dec.{ltb, leb}
 use lib.ListN.{length}
 use borrow.Author.Tests.{ltb-true}
-use Rattle.model.specs.Functions.{All}
-use Rattle.model.specs.Sizes.{deviceNumbers, mostDevices}
-use Rattle.model.specs.Devices.{DeviceLimits, deviceOf, afterLine}
-use Rattle.model.specs.DeviceLines.{deviceIn, pairsIn}
+use Rattle.model.specs.Sizes.{deviceNumbers, mostDevices, largestRate}
+use Rattle.model.specs.Devices.{DeviceLimits, deviceOf, pairOf, afterLine}
+use Rattle.model.specs.DeviceLines.{deviceIn, pairIn, pairsIn}
 use Rattle.model.specs.Tree.{Settings, withIo, withSettings, settingsAt}
-use Rattle.model.specs.Settings.{inRange, assign, hasRoom, shownDevice, shown, Allowed}
+use Rattle.model.specs.Settings.{inRange, assign, hasRoom}
 use Rattle.model.specs.Effects.{written}
+use Rattle.model.specs.declared.Limit.the-variants.{NoLimit, Figure}
+use Rattle.model.specs.declared.Key.{Key}
+use Rattle.model.specs.declared.Pair.{Pair}
+use Rattle.model.specs.declared.Pair.the-variants.{Absent, Given}
 use Rattle.model.specs.declared.Pairs.{Pairs}
-use Rattle.model.specs.declared.Setting.the-variants.{IoMax}
 use Rattle.model.specs.declared.SettingValue.the-variants.{Device}
-use Rattle.model.proofs.FunctionLaws.{and-left, and-right, all-map, all-of-images, clash}
-use Rattle.model.proofs.AllowedLaws.{limits-in-range, allowed-after-assign}
+use Rattle.model.proofs.FunctionLaws.{and-left, and-right, clash}
+use Rattle.model.proofs.FigureLaws.{between-le}
+use Rattle.model.proofs.DeviceLaws.{of-keys}
+use Rattle.devices.specs.LimitWords.{StorablePair, StorablePairs}
 use Rattle.devices.specs.Slots.{isFree, tableOf, Packed, InOrder, rows, LineWritten}
 use Rattle.devices.specs.declared.table.Slots.{Slots}
 use Rattle.devices.specs.declared.table.Passed.{Passed}
 use Rattle.tree.specs.Layout.{view}
-use Rattle.tree.specs.Changes.{StorableSlots, Slotted, Wrote, ioSet}
-use Rattle.tree.proofs.SlotLaws.{RatesIn, in-order, storable-slots}
+use Rattle.tree.specs.Changes.{Slotted, Wrote, ioSet}
+use Rattle.tree.proofs.SlotLaws.{in-order}
 use Rattle.control.specs.Values.{Settable, Stored}
 use Rattle.control.proofs.WroteLaws.{wrote-group-as}
+
+storable-pair : (p : Pair) → pairIn p ≡ true → StorablePair p
+storable-pair Absent e = tt
+storable-pair (Given NoLimit) e = tt
+storable-pair (Given (Figure n)) e = omega (arith, between-le 1 largestRate n e)
 
 module _ (xs : List ℕ) (g a b : ℕ) (p : Pairs) (k : Settable xs g (Device a b p)) where
   abbrev settings : Settings
@@ -41,8 +50,12 @@ module _ (xs : List ℕ) (g a b : ℕ) (p : Pairs) (k : Settable xs g (Device a 
   numbers-low =
       (ltb-true a deviceNumbers (and-left (ltb a deviceNumbers) _ numbers), ltb-true b deviceNumbers (and-right (ltb a deviceNumbers) _ numbers))
 
-  pub line-ready : (s : Slots) (d : ℕ) → Slotted xs g s → d ≡ deviceOf a b → InOrder (rows s) × (d < deviceNumbers * deviceNumbers)
-  line-ready s d h e = (in-order xs g s (k .at) h, omega (arith, numbers-low .0, numbers-low .1))
+  rates : (key : Key) → pairIn (pairOf p key) ≡ true
+  unfolding inRange
+  rates = of-keys (λ key. pairIn (pairOf p key)) (and-right (deviceIn a b) (pairsIn p) (k .within))
+
+  pub line-ready : (s : Slots) (d : ℕ) → Slotted xs g s → d ≡ deviceOf a b → InOrder (rows s) × ((d < deviceNumbers * deviceNumbers) × StorablePairs p)
+  line-ready s d h e = (in-order xs g s (k .at) h, (omega (arith, numbers-low .0, numbers-low .1), (λ key. storable-pair (pairOf p key) (rates key))))
 
   module _ (s : Slots) (d : ℕ) (r : Passed) (h : Slotted xs g s) (e : d ≡ deviceOf a b) (w : LineWritten s d p r) where
     -- the table after the line is that of the definitions
@@ -61,18 +74,8 @@ module _ (xs : List ℕ) (g a b : ℕ) (p : Pairs) (k : Settable xs g (Device a 
       table-after : tableOf (rows (r .slots)) ≡ assign (Device a b p) settings .io
       table-after = w .table free ∙ table-same
 
-      allowed : Allowed (assign (Device a b p) settings)
-      allowed =
-          allowed-after-assign (Device a b p) settings (k .within) (sym room-same ∙ free) (k .at .kept .formed .ranges .within g (k .at .live))
-
-      rates : All RatesIn (assign (Device a b p) settings .io)
-      unfolding shown
-      rates =
-          let io : List DeviceLimits = assign (Device a b p) settings .io in
-          all-map _ _ io limits-in-range (all-of-images (λ v. inRange v ≡ true) shownDevice io (allowed .values IoMax))
-
-      pub slots-ready : StorableSlots (r .slots) × Packed (rows (r .slots))
-      slots-ready = (storable-slots (r .slots) (w .packed free) (subst (All RatesIn) (sym table-after) rates), w .packed free)
+      pub slots-ready : Packed (rows (r .slots))
+      slots-ready = w .packed free
 
       pub stored-device : (ys : List ℕ) → Wrote xs ys (ioSet (view xs) g (tableOf (rows (r .slots)))) → Stored xs ys g (Device a b p) true
       unfolding assign

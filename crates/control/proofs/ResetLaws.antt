@@ -23,11 +23,10 @@ use Rattle.model.proofs.FunctionLaws.{split, whether, upd-same, upd-other, upd-
 use Rattle.model.proofs.ControlPreservation.{child-live, reset-child, reset-other}
 use Rattle.devices.specs.Slots.{tableOf, Packed, rows, noSlots}
 use Rattle.devices.specs.declared.table.Slots.{Slots}
-use Rattle.devices.proofs.SlotLaws.{packed-none}
+use Rattle.devices.proofs.TableLaws.{packed-none}
 use Rattle.tree.specs.Layout.{treeWords, view}
-use Rattle.tree.specs.Changes.{StorableSlots, Wrote, controlsSet}
+use Rattle.tree.specs.Changes.{Wrote, controlsSet}
 use Rattle.tree.specs.Kept.{Kept}
-use Rattle.tree.proofs.SlotLaws.{RatesIn, storable-slots}
 use Rattle.control.specs.Flags.{flagOf}
 use Rattle.control.specs.Stores.{withGroups, changedAt, cpuReset, ioReset, limitReset, Ranged, childrenReset}
 use Rattle.control.specs.declared.flags.Flags.{Flags}
@@ -67,12 +66,8 @@ module _ (s : Slots) (e : s ≡ noSlots) where
   unfolding tableOf
   no-slots-table = rw e
 
-  no-slots-packed : Packed (rows s)
+  pub no-slots-packed : Packed (rows s)
   no-slots-packed = subst (λ (x : Slots). Packed (rows x)) (sym e) packed-none
-
-  pub no-slots-ready : StorableSlots s × Packed (rows s)
-  unfolding All
-  no-slots-ready = (storable-slots s no-slots-packed (subst (All RatesIn) (sym no-slots-table) tt), no-slots-packed)
 
 -- ---- a child
 

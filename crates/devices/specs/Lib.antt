@@ -1,1 +1,2 @@
+pub mod LimitWords
 pub mod Slots

@@ -7,12 +7,12 @@ use lib.Dec.{eqb, ltb, leb}
 use lib.ListN.{length}
 use Rattle.model.specs.Functions.{pick, All}
 use Rattle.model.specs.Sizes.{mostDevices}
-use Rattle.model.specs.Devices.{DeviceLimits, orBefore, withDevice, afterLine, Ascending}
+use Rattle.model.specs.Devices.{DeviceLimits, changed, withDevice, afterLine, Ascending}
 use Rattle.model.specs.declared.Limit.{Limit}
-use Rattle.model.specs.declared.Limit.the-variants.{NoLimit}
 use Rattle.model.specs.declared.Key.{Key}
 use Rattle.model.specs.declared.Key.the-variants.{Rbps, Wbps, Riops, Wiops}
 use Rattle.model.specs.declared.Pairs.{Pairs}
+use Rattle.devices.specs.LimitWords.{limitIn}
 use Rattle.devices.specs.declared.slot.Slot.{Slot}
 use Rattle.devices.specs.declared.table.Slots.{Slots}
 use Rattle.devices.specs.declared.table.Placed.{Placed}
@@ -20,7 +20,7 @@ use Rattle.devices.specs.declared.table.Passed.{Passed}
 
 -- a slot of a device with no limits, and a free one
 abbrev pub unlimited : ℕ → Slot
-unlimited w = record { device = w; rbps = NoLimit; wbps = NoLimit; riops = NoLimit; wiops = NoLimit }
+unlimited w = record { device = w; rbps = 0; wbps = 0; riops = 0; wiops = 0 }
 
 abbrev pub freeSlot : Slot
 freeSlot = unlimited 0
@@ -29,10 +29,10 @@ abbrev pub isFree : Slot → Bool
 isFree s = eqb (s .device) 0
 
 abbrev pub limitsOf : Slot → Key → Limit
-limitsOf s Rbps = s .rbps
-limitsOf s Wbps = s .wbps
-limitsOf s Riops = s .riops
-limitsOf s Wiops = s .wiops
+limitsOf s Rbps = limitIn (s .rbps)
+limitsOf s Wbps = limitIn (s .wbps)
+limitsOf s Riops = limitIn (s .riops)
+limitsOf s Wiops = limitIn (s .wiops)
 
 abbrev pub lineOf : Slot → DeviceLimits
 lineOf s = record { device = s .device - 1; limit = limitsOf s }
@@ -93,15 +93,10 @@ unfoldable pub slotOf : ℕ → List Slot → Slot
 slotOf w [] = unlimited w
 slotOf w (x ∷ xs) = pick (eqb (x .device) w) x (slotOf w xs)
 
-abbrev pub changedSlot : Slot → Pairs → Slot
-changedSlot x p =
-    record {
-      device = x .device;
-      rbps = orBefore (x .rbps) (p .rbps);
-      wbps = orBefore (x .wbps) (p .wbps);
-      riops = orBefore (x .riops) (p .riops);
-      wiops = orBefore (x .wiops) (p .wiops);
-    }
+-- what a line leaves of a slot
+pub record SlotChanged (x : Slot) (p : Pairs) (r : Slot) : Type 0 where
+  pub device : r .device ≡ x .device
+  pub limits : limitsOf r ≡ changed p (limitsOf x)
 
 -- What a line for a device leaves: the table after it, packed, where four places are enough; and whether they are.
 pub record LineWritten (s : Slots) (device : ℕ) (p : Pairs) (r : Passed) : Type 0 where

@@ -1,18 +1,19 @@
-// A device of io.max and its limits.
+// A device of io.max and its limits, as words.
 ghost use mathlib.Core.Path.{_≡_};
-ghost use Rattle.model.specs.Devices.{isMax, allMax, orBefore};
-ghost use Rattle.devices.specs.Slots.{freeSlot, limitsOf, changedSlot};
-use model::Limit;
+ghost use Rattle.model.specs.Devices.{allMax, orBefore};
+ghost use Rattle.devices.specs.LimitWords.{limitIn, StorablePair, StorablePairs};
+ghost use Rattle.devices.specs.Slots.{freeSlot, limitsOf, SlotChanged};
+use super::limit::limit_word;
 use model::Pair;
 use model::Pairs;
 
 // The device is kept as its number plus one, 0 where the slot is free.
 pub struct Slot {
     pub device: u64,
-    pub rbps: Limit,
-    pub wbps: Limit,
-    pub riops: Limit,
-    pub wiops: Limit,
+    pub rbps: u64,
+    pub wbps: u64,
+    pub riops: u64,
+    pub wiops: u64,
 }
 
 pub fn free() -> Slot
@@ -20,19 +21,10 @@ pub fn free() -> Slot
 {
     Slot {
         device: 0,
-        rbps: Limit::NoLimit,
-        wbps: Limit::NoLimit,
-        riops: Limit::NoLimit,
-        wiops: Limit::NoLimit,
-    }
-}
-
-fn is_max(limit: Limit) -> bool
-    ensures { λ r. ⌜ r ≡ isMax limit ⌝ }
-{
-    match limit {
-        Limit::NoLimit => true,
-        Limit::Figure(_) => false,
+        rbps: 0,
+        wbps: 0,
+        riops: 0,
+        wiops: 0,
     }
 }
 
@@ -40,49 +32,43 @@ fn is_max(limit: Limit) -> bool
 pub fn is_all_max(x: Slot) -> bool
     ensures { λ r. ⌜ r ≡ allMax (limitsOf x) ⌝ }
 {
-    let rbps = x.rbps;
-    let wbps = x.wbps;
-    let riops = x.riops;
-    let wiops = x.wiops;
-    if !is_max(rbps) {
+    if x.rbps != 0 {
         return false;
     }
-    if !is_max(wbps) {
+    if x.wbps != 0 {
         return false;
     }
-    if !is_max(riops) {
+    if x.riops != 0 {
         return false;
     }
-    is_max(wiops)
+    x.wiops == 0
 }
 
 // A key that is not given keeps what it had.
-fn or_before(limit: Limit, pair: Pair) -> Limit
-    ensures { λ r. ⌜ r ≡ orBefore limit pair ⌝ }
+fn or_before(word: u64, pair: Pair) -> u64
+    requires { ⌜ StorablePair pair ⌝ }
+    ensures { λ r. ⌜ limitIn r ≡ orBefore (limitIn word) pair ⌝ }
 {
     match pair {
-        Pair::Absent => limit,
-        Pair::Given(given) => given,
+        Pair::Absent => word,
+        Pair::Given(given) => limit_word(given),
     }
 }
 
 // A slot after a line for its device.
 pub fn changed(x: Slot, pairs: Pairs) -> Slot
-    ensures { λ r. ⌜ r ≡ changedSlot x pairs ⌝ }
+    requires { ⌜ StorablePairs pairs ⌝ }
+    ensures { λ r. ⌜ SlotChanged x pairs r ⌝ }
 {
-    let rbps = x.rbps;
-    let wbps = x.wbps;
-    let riops = x.riops;
-    let wiops = x.wiops;
-    let given_rbps = pairs.rbps;
-    let given_wbps = pairs.wbps;
-    let given_riops = pairs.riops;
-    let given_wiops = pairs.wiops;
+    let rbps = pairs.rbps;
+    let wbps = pairs.wbps;
+    let riops = pairs.riops;
+    let wiops = pairs.wiops;
     Slot {
         device: x.device,
-        rbps: or_before(rbps, given_rbps),
-        wbps: or_before(wbps, given_wbps),
-        riops: or_before(riops, given_riops),
-        wiops: or_before(wiops, given_wiops),
+        rbps: or_before(x.rbps, rbps),
+        wbps: or_before(x.wbps, wbps),
+        riops: or_before(x.riops, riops),
+        wiops: or_before(x.wiops, wiops),
     }
 }

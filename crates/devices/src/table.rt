@@ -4,12 +4,12 @@ ghost use Prim.Native.Nat.{_*_, _<_};
 ghost use mathlib.Core.Logic.{_≢_};
 ghost use mathlib.Core.Path.{_≡_};
 ghost use Rattle.model.specs.Sizes.{deviceNumbers};
+ghost use Rattle.devices.specs.LimitWords.{StorablePairs};
 ghost use Rattle.devices.specs.Slots.{noSlots, stepped, slotsOf, passed, without, rows, slotOf, InOrder, Written, LineWritten};
 use super::slot::Slot;
 use super::slot::changed;
 use super::slot::free;
 use super::slot::is_all_max;
-use model::Limit;
 use model::Pairs;
 
 pub struct Slots {
@@ -204,16 +204,16 @@ fn slot_of(s: Slots, device: u64) -> Slot
     }
     Slot {
         device: device,
-        rbps: Limit::NoLimit,
-        wbps: Limit::NoLimit,
-        riops: Limit::NoLimit,
-        wiops: Limit::NoLimit,
+        rbps: 0,
+        wbps: 0,
+        riops: 0,
+        wiops: 0,
     }
 }
 
 // The table after a line for a device.
 pub fn after_line(s: Slots, device: u64, pairs: Pairs) -> Passed
-    requires { ⌜ InOrder (rows s) × (device < deviceNumbers * deviceNumbers) ⌝ }
+    requires { ⌜ InOrder (rows s) × ((device < deviceNumbers * deviceNumbers) × StorablePairs pairs) ⌝ }
     ensures { λ r. ⌜ LineWritten s device pairs r ⌝ }
 {
     let old = slot_of(s, device + 1);

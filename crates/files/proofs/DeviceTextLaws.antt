@@ -17,6 +17,7 @@ use Rattle.model.specs.declared.Setting.the-variants.{IoMax}
 use Rattle.model.specs.declared.File.the-variants.{Value}
 use Rattle.model.proofs.FunctionLaws.{split}
 use Rattle.model.proofs.WriteBack.{length-of-text}
+use Rattle.devices.specs.LimitWords.{limitIn}
 use Rattle.devices.specs.Slots.{freeSlot, isFree, lineOf, tableOf, Packed, rows}
 use Rattle.devices.specs.declared.slot.Slot.{Slot}
 use Rattle.devices.specs.declared.table.Slots.{Slots}
@@ -32,8 +33,8 @@ module _ (x : Slot) where
   -- four keys, each between a space and an equals sign
   pub length-limits : length (limitsText x)
       ≡ 26
-      + (length (limitText (x .rbps))
-      + (length (limitText (x .wbps)) + (length (limitText (x .riops)) + length (limitText (x .wiops)))))
+      + (length (limitText (limitIn (x .rbps)))
+      + (length (limitText (limitIn (x .wbps))) + (length (limitText (limitIn (x .riops))) + length (limitText (limitIn (x .wiops))))))
   length-limits = simp length-append (omega arith)
 
   pub slot-free : x .device ≡ 0 → [] ≡ slotText x

@@ -16,6 +16,7 @@ use Rattle.model.specs.Files.{path, contents}
 use Rattle.model.specs.declared.File.{File}
 use Rattle.model.specs.declared.Setting.{Setting}
 use Rattle.model.specs.declared.ReadAnswer.{ReadAnswer}
+use Rattle.devices.specs.LimitWords.{limitIn}
 use Rattle.devices.specs.Slots.{isFree, lineOf}
 use Rattle.devices.specs.declared.slot.Slot.{Slot}
 use Rattle.text.specs.Write.{Appended, Delivers}
@@ -83,9 +84,9 @@ endAfter at = pick (eqb at 0) [] (newline ∷ [])
 -- the limits of a slot: each key after a space
 abbrev pub limitsText : Slot → List ℕ
 limitsText x =
-    (bytes " rbps=" ++ limitText (x .rbps))
-    ++ ((bytes " wbps=" ++ limitText (x .wbps))
-    ++ ((bytes " riops=" ++ limitText (x .riops)) ++ (bytes " wiops=" ++ limitText (x .wiops))))
+    (bytes " rbps=" ++ limitText (limitIn (x .rbps)))
+    ++ ((bytes " wbps=" ++ limitText (limitIn (x .wbps)))
+    ++ ((bytes " riops=" ++ limitText (limitIn (x .riops))) ++ (bytes " wiops=" ++ limitText (limitIn (x .wiops)))))
 
 -- the line of a slot; of a free one there is none
 abbrev pub slotText : Slot → List ℕ

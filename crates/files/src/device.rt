@@ -6,12 +6,13 @@ ghost use Rattle.model.specs.DeviceLines.{deviceText};
 ghost use Rattle.model.specs.Settings.{limitText};
 ghost use Rattle.model.specs.declared.File.{File};
 ghost use Rattle.model.specs.declared.Setting.{Setting};
+ghost use Rattle.devices.specs.LimitWords.{limitIn};
 ghost use Rattle.text.specs.Write.{Appended};
 ghost use Rattle.tree.specs.Kept.{KeptAt};
 ghost use Rattle.files.specs.Texts.{longestDevices, limitsText, slotText, Renders};
+use devices::limit::limit_in;
 use devices::slot::Slot;
 use model::GroupId;
-use model::Limit;
 use text::amount::major_of;
 use text::amount::minor_of;
 use text::write::put_byte;
@@ -32,12 +33,12 @@ fn put_device(out: &mut [u8], at: usize, major: u64, minor: u64) -> usize
 }
 
 // A key, between a space and an equals sign, and its limit.
-fn put_pair(out: &mut [u8], at: usize, key: &[u8], limit: Limit) -> usize
-    requires { ⌜ at + length (now key ++ limitText limit) ≤ length (now out) ⌝ }
-    ensures { λ r. ⌜ Appended (now (out .entry)) at (now (key .entry) ++ limitText limit) (now (out .exit)) r ⌝ }
+fn put_pair(out: &mut [u8], at: usize, key: &[u8], word: u64) -> usize
+    requires { ⌜ at + length (now key ++ limitText (limitIn word)) ≤ length (now out) ⌝ }
+    ensures { λ r. ⌜ Appended (now (out .entry)) at (now (key .entry) ++ limitText (limitIn word)) (now (out .exit)) r ⌝ }
 {
     let value = put_text(out, at, key);
-    put_limit(out, value, limit)
+    put_limit(out, value, limit_in(word))
 }
 
 // The limits of all four keys.
@@ -45,14 +46,10 @@ fn put_limits(out: &mut [u8], at: usize, x: Slot) -> usize
     requires { ⌜ at + length (limitsText x) ≤ length (now out) ⌝ }
     ensures { λ r. ⌜ Appended (now (out .entry)) at (limitsText x) (now (out .exit)) r ⌝ }
 {
-    let rbps = x.rbps;
-    let wbps = x.wbps;
-    let riops = x.riops;
-    let wiops = x.wiops;
-    let first = put_pair(out, at, b" rbps=", rbps);
-    let second = put_pair(out, first, b" wbps=", wbps);
-    let third = put_pair(out, second, b" riops=", riops);
-    put_pair(out, third, b" wiops=", wiops)
+    let first = put_pair(out, at, b" rbps=", x.rbps);
+    let second = put_pair(out, first, b" wbps=", x.wbps);
+    let third = put_pair(out, second, b" riops=", x.riops);
+    put_pair(out, third, b" wiops=", x.wiops)
 }
 
 // The line of a slot; nothing of a free one.

@@ -1,4 +1,4 @@
-pub mod ClearedLaws
+pub mod ChildLaws
 pub mod MakeLaws
 pub mod LeafLaws
 pub mod RemoveLaws

@@ -1,44 +1,44 @@
--- What an accepted make finds, and that its stores give the definitions' tree: no amount changes, nothing is in the group that is
--- made, and its parent counts it. Assumes nothing.
+-- What an accepted make finds, and that its stores give the definitions' tree: no amount changes, and its parent counts one child
+-- more. Assumes nothing.
 use Prim.Native.Nat.{ℕ, suc, _+_, _≤_, _<_}
 use native.Mathlib.Omega.{arith}
 use native.Mathlib.Numerals.{add-one}
 use mathlib.Core.Bool.{true, false}
 use mathlib.Core.List.{List}
-use mathlib.Core.Logic.{_≢_}
-use mathlib.Core.Path.{_≡_, ap, _∙_, subst}
+use mathlib.Core.Path.{_≡_, ap, sym, _∙_, subst}
 use lib.Dec.{eqb}
-use borrow.Author.Tests.{leb-false, ne-eqb}
+use borrow.Author.Tests.{leb-false}
 use Rattle.model.specs.Functions.{upd, weigh}
 use Rattle.model.specs.Sizes.{groups, deepest}
 use Rattle.model.specs.Checks.{Pass}
-use Rattle.model.specs.Tree.{Tree, Core, Group, newCore, newGroup, atGroup, cores, lives, depths, places}
+use Rattle.model.specs.Tree.{Tree, Core, Group, groupTaken, noGroup, newCore, newGroup, atGroup, cores, lives, depths, places}
 use Rattle.model.specs.Hierarchy.{amount, factsOf}
 use Rattle.model.specs.Calls.{make, checks, verdict}
 use Rattle.model.specs.Effects.{effect}
 use Rattle.model.specs.declared.Resource.{Resource}
 use Rattle.model.specs.declared.Answer.the-variants.{Done}
-use Rattle.model.proofs.FunctionLaws.{clash, weigh-no, weigh-zero, upd-map}
+use Rattle.model.proofs.FunctionLaws.{weigh-zero, upd-map}
 use Rattle.model.proofs.RuleLaws.{untaken-group}
-use Rattle.model.proofs.AmountLaws.{amount-dead, amount-after-make}
+use Rattle.model.proofs.AmountLaws.{amount-after-make}
 use Rattle.model.proofs.Steps.{passed}
 use Rattle.tree.specs.Layout.{view, sumIn}
-use Rattle.tree.specs.Changes.{Cleared, AdjustedAt}
+use Rattle.tree.specs.Changes.{Wrote, AdjustedAt}
 use Rattle.tree.specs.Counters.{Countable}
 use Rattle.tree.specs.Kept.{children, countOf, Kept}
 use Rattle.tree.specs.Calling.{Applied}
 use Rattle.tree.specs.declared.sum.Counter.{Counter}
 use Rattle.tree.specs.declared.sum.Counter.the-variants.{Of, Children}
 use Rattle.tree.proofs.KeptLaws.{countable}
-use Rattle.tree.proofs.CountLaws.{count-dead, children-after-make}
-use Rattle.groups.proofs.ClearedLaws.{applied-cleared, children-adjusted}
+use Rattle.tree.proofs.CountLaws.{children-after-make}
+use Rattle.tree.proofs.CallLaws.{applied}
+use Rattle.groups.proofs.ChildLaws.{children-apart, children-adjusted}
 
 -- what the checks say where all pass
 pub record Makeable (t : Tree) (parent new : ℕ) : Type 0 where
   pub above : parent < groups
   pub home : lives t parent ≡ true
   pub low : new < groups
-  pub free : lives t new ≡ false
+  pub free : groupTaken (t .group new) ≡ false
   pub shallow : depths t parent < deepest
 
 pub makeable : (t : Tree) (user parent new : ℕ) → verdict t (make user parent new) ≡ Done → Makeable t parent new
@@ -49,13 +49,16 @@ makeable t user parent new v =
       above = omega (arith, leb-false);
       home = (search);
       low = omega (arith, leb-false);
-      free = untaken-group (t .group new) (search);
+      free = (search);
       shallow = omega (arith, leb-false);
     }
 
 module _ (xs : List ℕ) (k : Kept xs) (user parent new : ℕ) (v : verdict (view xs) (make user parent new) ≡ Done) where
   m : Makeable (view xs) parent new
   m = makeable (view xs) user parent new v
+
+  dead : lives (view xs) new ≡ false
+  dead = untaken-group (view xs .group new) (m .free)
 
   abbrev s : ℕ → Core
   s = cores (view xs)
@@ -69,25 +72,12 @@ module _ (xs : List ℕ) (k : Kept xs) (user parent new : ℕ) (v : verdict (vie
   amount-same : (depth : ℕ) (r : Resource) (g : ℕ) → amount (cores (made depth)) (places (view xs)) r g ≡ amount s (places (view xs)) r g
   amount-same depth r g =
       ap (λ f. amount f (places (view xs)) r g) (cores-after depth)
-      ∙ amount-after-make s (places (view xs)) (depths (view xs)) (k .formed .sound) (k .formed .placed) r new parent g (m .free)
+      ∙ amount-after-make s (places (view xs)) (depths (view xs)) (k .formed .sound) (k .formed .placed) r new parent g dead
 
-  -- nothing is in the group that is made
   children-made : (depth a : ℕ) → children (cores (made depth)) a ≡ children s a + weigh (eqb parent a) 1
   children-made depth a =
       ap (λ f. children f a) (cores-after depth)
-      ∙ children-after-make s (places (view xs)) (depths (view xs)) (k .formed .sound) (k .formed .placed) new parent (m .low) (m .free) a
-
-  count-made : (depth : ℕ) (c : Counter) → countOf (cores (made depth)) (places (view xs)) c new ≡ 0
-  count-made depth (Of r) =
-      amount-same depth r new ∙ amount-dead s (places (view xs)) (depths (view xs)) (k .formed .sound) (k .formed .placed) r new (m .free)
-  count-made depth Children =
-      let apart : parent ≢ new = (λ e. clash (lives (view xs) parent) (m .home) (rw e (m .free))) in
-      omega (
-        arith,
-        children-made depth new,
-        count-dead s (places (view xs)) (depths (view xs)) (k .formed .sound) (k .formed .placed) Children new (m .free),
-        weigh-no (eqb parent new) 1 (ne-eqb parent new apart),
-      )
+      ∙ children-after-make s (places (view xs)) (depths (view xs)) (k .formed .sound) (k .formed .placed) new parent (m .low) dead a
 
   pub make-countable : (n : ℕ) → n ≤ 1 → Countable xs Children parent n 0
   make-countable n few = countable xs k parent (m .home) Children n 0 (omega arith) (omega arith)
@@ -102,10 +92,20 @@ module _ (xs : List ℕ) (k : Kept xs) (user parent new : ℕ) (v : verdict (vie
         children-made depth a,
       )
 
+  -- a number that is free has no group in its row
+  pub new-blank : (zs : List ℕ) → AdjustedAt xs zs Children parent 1 0 → view zs .group new ≡ noGroup
+  new-blank zs j = ap (λ (t : Tree). t .group new) (j .tree) ∙ k .formed .blank .freeGroup new (m .free)
+
   pub applied-make : (zs ys : List ℕ) (d : ℕ) → d ≡ depths (view xs) parent → AdjustedAt xs zs Children parent 1 0
-      → Cleared zs ys (atGroup (view zs) new (newGroup parent (d + 1) user)) new → Applied xs ys (make user parent new)
+      → Wrote zs ys (atGroup (view zs) new (newGroup parent (d + 1) user)) → Applied xs ys (make user parent new)
   unfolding effect
   applied-make zs ys d e j p =
-      applied-cleared xs k (make user parent new) v new zs ys parent 1 0 j
-      (subst (λ (t : Tree). Cleared zs ys (atGroup t new (newGroup parent (suc (depths (view xs) parent)) user)) new) (j .tree) (rw (e, add-one) at p))
-      (count-made _) (λ a _. count-above zs j _ a) (λ r a _. amount-same _ r a)
+      let depth : ℕ = suc (depths (view xs) parent) in
+      let w : Wrote zs ys (made depth) =
+      subst (λ (t : Tree). Wrote zs ys (atGroup t new (newGroup parent depth user))) (j .tree) (rw (e, add-one) at p) in
+      applied xs k (make user parent new) v ys
+      (record { long = w .long; tree = w .tree; sums = λ c a. w .sums c a ∙ counted depth c a; spare = w .spare (j .spare (k .spare)) })
+    where
+      counted : (depth : ℕ) (c : Counter) (a : ℕ) → sumIn zs c a ≡ countOf (cores (made depth)) (places (view xs)) c a
+      counted depth (Of r) a = j .other (Of r) (children-apart r) a ∙ k .sums (Of r) a ∙ sym (amount-same depth r a)
+      counted depth Children a = count-above zs j depth a

@@ -6,7 +6,7 @@ use native.Mathlib.Omega.{arith}
 use mathlib.Core.Bool.{true}
 use mathlib.Core.List.{List}
 use mathlib.Core.Logic.{_≢_}
-use mathlib.Core.Path.{_≡_, refl, ap, _∙_, subst}
+use mathlib.Core.Path.{_≡_, refl, ap, sym, _∙_, subst}
 use lib.Dec.{eqb}
 use borrow.Author.Tests.{eqb-false}
 use Rattle.model.specs.Functions.{upd, weigh}
@@ -19,7 +19,7 @@ use Rattle.model.specs.Effects.{charged, removed, effect}
 use Rattle.model.specs.WellFormed.{WellFormed}
 use Rattle.model.specs.declared.Resource.{Resource}
 use Rattle.model.specs.declared.Answer.the-variants.{Done}
-use Rattle.model.proofs.FunctionLaws.{weigh-zero, upd-same, upd-map}
+use Rattle.model.proofs.FunctionLaws.{whether, weigh-zero, upd-same, upd-map}
 use Rattle.model.proofs.RuleLaws.{NoChild}
 use Rattle.model.proofs.AmountLaws.{amount-after-remove}
 use Rattle.model.proofs.Steps.{passed, no-child, no-process, well-formed-effect}
@@ -29,10 +29,11 @@ use Rattle.tree.specs.Counters.{Countable}
 use Rattle.tree.specs.Kept.{children, countOf, Kept}
 use Rattle.tree.specs.Calling.{Applied}
 use Rattle.tree.specs.declared.sum.Counter.{Counter}
-use Rattle.tree.specs.declared.sum.Counter.the-variants.{Children}
+use Rattle.tree.specs.declared.sum.Counter.the-variants.{Of, Children}
 use Rattle.tree.proofs.KeptLaws.{parent-low, own-small, countable}
 use Rattle.tree.proofs.CountLaws.{count-dead, child-counted, children-after-remove}
-use Rattle.groups.proofs.ClearedLaws.{cleared-after-wrote, applied-cleared, children-adjusted}
+use Rattle.tree.proofs.CallLaws.{applied}
+use Rattle.groups.proofs.ChildLaws.{children-apart, children-adjusted}
 
 -- what the checks say where all pass
 record Removable (t : Tree) (g : ℕ) : Type 0 where
@@ -124,6 +125,11 @@ module _ (xs : List ℕ) (k : Kept xs) (user g : ℕ) (v : verdict (view xs) (re
         ap (λ f. children f a) cores-after,
       )
 
+  counted : (us : List ℕ) → AdjustedAt xs us Children (parents (view xs) g) 0 1 → (c : Counter) (a : ℕ) → a ≢ g
+      → sumIn us c a ≡ countOf (cores (removed (view xs) g)) (places (view xs)) c a
+  counted us d (Of r) a ne = d .other (Of r) (children-apart r) a ∙ k .sums (Of r) a ∙ sym (amount-same r a ne)
+  counted us d Children a ne = count-above us d a
+
   pub applied-remove : (us zs ys : List ℕ) (p m n : ℕ) → p ≡ parents (view xs) g → m ≡ view xs .group p .core .own → n ≡ view xs .group g .core .own
       → AdjustedAt xs us Children p 0 1 → Wrote us zs (ownSet (view us) p (m + n)) → Cleared zs ys (atGroup (view zs) g noGroup) g
       → Applied xs ys (remove user g)
@@ -132,6 +138,12 @@ module _ (xs : List ℕ) (k : Kept xs) (user g : ℕ) (v : verdict (view xs) (re
       let h : ℕ = parents (view xs) g in
       let pages : ℕ = view xs .group h .core .own + view xs .group g .core .own in
       let stored : Wrote us zs (ownSet (view xs) h pages) = subst (λ (t : Tree). Wrote us zs (ownSet t h pages)) (j .tree) (rw (b, d, a) at w) in
-      applied-cleared xs k (remove user g) v g us ys _ 0 1 (rw a at j)
-      (cleared-after-wrote us zs ys _ g noGroup stored q)
-      count-removed (λ x _. count-above us (rw a at j) x) amount-same
+      applied xs k (remove user g) v ys
+      (record {
+        long = q .long;
+        tree = q .tree ∙ ap (λ (t : Tree). atGroup t g noGroup) (stored .tree);
+        sums =
+            λ c x.
+            whether x g (λ f. rw f (q .here c ∙ sym (count-removed c))) (λ ne. q .other c x ne ∙ stored .sums c x ∙ counted us (rw a at j) c x ne);
+        spare = q .spare (stored .spare (j .spare (k .spare)));
+      })

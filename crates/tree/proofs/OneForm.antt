@@ -13,13 +13,13 @@ use borrow.Author.Tests.{eqb-true, eqb-false}
 use Rattle.model.specs.Sizes.{groups, processes}
 use Rattle.model.specs.Tree.{Tree, Group, Process, nowhere, at}
 use Rattle.model.specs.declared.Resource.the-variants.{Pages, Processes}
-use Rattle.model.specs.declared.Limit.the-variants.{NoLimit, Figure}
 use Rattle.model.specs.declared.Controller.the-variants.{Cpu, Io, Memory, Pids}
 use Rattle.model.proofs.FunctionLaws.{split, whether}
 use Rattle.devices.specs.Slots.{freeSlot}
 use Rattle.devices.specs.declared.slot.Slot.{Slot}
-use Rattle.devices.proofs.PassLaws.{same-slots}
-use Rattle.tree.specs.Layout.{front, machineAt, rowWords, treeWords, word, sumField, sumIn, firstFlag, liveField, setField, firstSlot, slotField, used, limitIn, placeIn, flagIn, slotIn, slotsIn, groupRow, processIn, view, SpareRow}
+use Rattle.devices.proofs.LimitWordLaws.{limit-word-is}
+use Rattle.devices.proofs.TableLaws.{same-slots}
+use Rattle.tree.specs.Layout.{front, machineAt, rowWords, treeWords, word, sumField, sumIn, firstFlag, liveField, setField, firstSlot, slotField, used, placeIn, flagIn, slotIn, slotsIn, groupRow, processIn, view, SpareRow}
 use Rattle.tree.specs.Kept.{countIn, Kept}
 use Rattle.tree.specs.OneForm.{OneForm}
 use Rattle.tree.specs.declared.sum.Counter.{Counter}
@@ -27,25 +27,6 @@ use Rattle.tree.specs.declared.sum.Counter.the-variants.{Of, Children}
 use Rattle.tree.proofs.RowLaws.{process-in}
 
 -- A meaning has one word.
-limit-word : (v w : ℕ) → limitIn v ≡ limitIn w → v ≡ w
-limit-word v w e =
-    split (eqb v 0)
-    (λ y. split (eqb w 0)
-    (λ z. eqb-true v 0 y ∙ sym (eqb-true w 0 z))
-    (λ o. none-figure (w - 1) (rw (y, o) at e)))
-    (λ n. split (eqb w 0)
-    (λ z. none-figure (v - 1) (sym (rw (n, z) at e)))
-    (λ o. let f : v - 1 ≡ w - 1 = figure-is (v - 1) (w - 1) (rw (n, o) at e) in
-    let p : v ≢ 0 = eqb-false v 0 n in
-    let q : w ≢ 0 = eqb-false w 0 o in
-    omega arith))
-  where
-    none-figure : (n : ℕ) → NoLimit ≡ Figure n → v ≡ w
-    none-figure n e = let z : _≡_ {A = ℕ} 0 1 = cc in absurd (omega arith)
-
-    figure-is : (m n : ℕ) → Figure m ≡ Figure n → m ≡ n
-    figure-is m n e = cc
-
 place-word : (v w : ℕ) → placeIn v ≡ placeIn w → v ≡ w
 place-word v w e =
     split (eqb v 0)
@@ -97,10 +78,10 @@ module _ (v w : ℕ → ℕ) (a : SpareRow v) (b : SpareRow w) (sums : (c : Coun
   -- and so are their words, after the places before them
   and-slot : (k : ℕ) → slotIn v k ≡ slotIn w k → Below (λ k. v k ≡ w k) k → Below (λ k. v k ≡ w k) (suc (suc (suc (suc (suc k)))))
   and-slot k f before =
-      at (k + 4) (suc (suc (suc (suc k)))) (omega arith) (limit-word _ _ (ap (λ (x : Slot). x .wiops) f))
-      ▹ at (k + 3) (suc (suc (suc k))) (omega arith) (limit-word _ _ (ap (λ (x : Slot). x .riops) f))
-      ▹ at (k + 2) (suc (suc k)) (omega arith) (limit-word _ _ (ap (λ (x : Slot). x .wbps) f))
-      ▹ at (k + 1) (suc k) (omega arith) (limit-word _ _ (ap (λ (x : Slot). x .rbps) f))
+      at (k + 4) (suc (suc (suc (suc k)))) (omega arith) (ap (λ (x : Slot). x .wiops) f)
+      ▹ at (k + 3) (suc (suc (suc k))) (omega arith) (ap (λ (x : Slot). x .riops) f)
+      ▹ at (k + 2) (suc (suc k)) (omega arith) (ap (λ (x : Slot). x .wbps) f)
+      ▹ at (k + 1) (suc k) (omega arith) (ap (λ (x : Slot). x .rbps) f)
       ▹ ap (λ (x : Slot). x .device) f
       ▹ before
     where
@@ -115,12 +96,12 @@ module _ (v w : ℕ → ℕ) (a : SpareRow v) (b : SpareRow w) (sums : (c : Coun
       ▹ flag (setField Cpu) (omega arith) (omega arith) (ap (λ (g : Group). g .set Cpu) e)
       ▹ flag liveField (omega arith) (omega arith) (ap (λ (g : Group). g .core .live) e)
       ▹ ap (λ (g : Group). g .cpu .period) e
-      ▹ limit-word _ _ (ap (λ (g : Group). g .cpu .quota) e)
+      ▹ limit-word-is _ _ (ap (λ (g : Group). g .cpu .quota) e)
       ▹ ap (λ (g : Group). g .cpu .weight) e
       ▹ ap (λ (g : Group). g .owner) e
       ▹ ap (λ (g : Group). g .depth) e
-      ▹ limit-word _ _ (ap (λ (g : Group). g .core .limit Processes) e)
-      ▹ limit-word _ _ (ap (λ (g : Group). g .core .limit Pages) e)
+      ▹ limit-word-is _ _ (ap (λ (g : Group). g .core .limit Processes) e)
+      ▹ limit-word-is _ _ (ap (λ (g : Group). g .core .limit Pages) e)
       ▹ ap (λ (g : Group). g .core .own) e
       ▹ ap (λ (g : Group). g .core .parent) e
       ▹ sums Children

@@ -7,85 +7,82 @@ use mathlib.Core.Path.{_≡_, refl, ap, sym, _∙_, subst}
 use lib.Dec.{ltb}
 use lib.ListN.{getD}
 use borrow.Author.Tests.{ltb-true}
-use Rattle.model.specs.Functions.{pick, upd, All}
-use Rattle.model.specs.Sizes.{groups, largestRate}
-use Rattle.model.specs.Devices.{DeviceLimits, Ascending}
-use Rattle.model.specs.DeviceLines.{rateIn}
+use Rattle.model.specs.Functions.{pick, upd}
+use Rattle.model.specs.Sizes.{groups}
+use Rattle.model.specs.Devices.{Ascending}
 use Rattle.model.specs.Tree.{Group, withIo, withSettings, settingsOf, atGroup}
-use Rattle.model.specs.declared.Limit.{Limit}
-use Rattle.model.specs.declared.Limit.the-variants.{NoLimit, Figure}
-use Rattle.model.specs.declared.Key.{Key}
-use Rattle.model.specs.declared.Key.the-variants.{Rbps, Wbps, Riops, Wiops}
-use Rattle.model.proofs.FunctionLaws.{split, upd-same, upd-other, all-map}
-use Rattle.model.proofs.FigureLaws.{between-le}
-use Rattle.devices.specs.Slots.{freeSlot, isFree, lineOf, tableOf, Packed, InOrder, rows}
+use Rattle.model.proofs.FunctionLaws.{split, upd-same, upd-other}
+use Rattle.devices.specs.Slots.{tableOf, Packed, InOrder, rows}
 use Rattle.devices.specs.declared.slot.Slot.{Slot}
 use Rattle.devices.specs.declared.table.Slots.{Slots}
-use Rattle.tree.specs.Layout.{front, rowWords, firstWord, firstSlot, slotWords, slotField, used, word, withWord, limitIn, slotIn, slotsIn, groupRow, view}
-use Rattle.tree.specs.Changes.{GroupRow, Storable, StorableSlot, StorableSlots, SlotPut, Slotted, Wrote, ioSet}
+use Rattle.tree.specs.Layout.{front, rowWords, firstWord, firstSlot, slotWords, slotField, used, word, withWord, slotIn, slotsIn, groupRow, view}
+use Rattle.tree.specs.Changes.{GroupRow, SlotPut, Slotted, Wrote, ioSet}
 use Rattle.tree.specs.Kept.{KeptAt}
 use Rattle.tree.proofs.RowLaws.{RowPut, row-start, also, group-ext, wrote-slots}
 
 -- A slot read word by word, from place i of the words on.
-pub slot-read : (xs : List ℕ) (g j i : ℕ) → i ≡ front + g * rowWords + j → (a b c d : Limit) → a ≡ limitIn (getD xs (i + 1) 0)
-    → b ≡ limitIn (getD xs (i + 2) 0) → c ≡ limitIn (getD xs (i + 3) 0) → d ≡ limitIn (getD xs (i + 4) 0)
-    → record { device = getD xs i 0; rbps = a; wbps = b; riops = c; wiops = d } ≡ slotIn (word xs g) j
-slot-read xs g j i e a b c d p q r s =
+pub slot-read : (xs : List ℕ) (g j i : ℕ) → i ≡ front + g * rowWords + j
+    → record {
+      device = getD xs i 0;
+      rbps = getD xs (i + 1) 0;
+      wbps = getD xs (i + 2) 0;
+      riops = getD xs (i + 3) 0;
+      wiops = getD xs (i + 4) 0;
+    } ≡ slotIn (word xs g) j
+slot-read xs g j i e =
+    let at : (n : ℕ) → getD xs (i + n) 0 ≡ word xs g (j + n) = (λ n. ap (λ (k : ℕ). getD xs k 0) (omega arith)) in
     let number : getD xs i 0 ≡ word xs g j = ap (λ (k : ℕ). getD xs k 0) e in
-    let at : (n : ℕ) (l : Limit) → l ≡ limitIn (getD xs (i + n) 0) → l ≡ limitIn (word xs g (j + n)) =
-    (λ n l h. h ∙ ap (λ (k : ℕ). limitIn (getD xs k 0)) (omega arith)) in
-    λ m. record { device = number m; rbps = at 1 a p m; wbps = at 2 b q m; riops = at 3 c r m; wiops = at 4 d s m }
+    λ m. record { device = number m; rbps = at 1 m; wbps = at 2 m; riops = at 3 m; wiops = at 4 m }
 
 -- the four slots are those of the row
 pub slotted : (xs : List ℕ) (g : ℕ) (s : Slots) → g < groups → rows s ≡ slotsIn (word xs g) → Slotted xs g s
 slotted xs g s low e = record { table = ap tableOf e; packed = λ p. subst Packed (sym e) (p .rows g low .packed) }
 
 -- A slot stored word by word.
-module _ (w : ℕ → ℕ) (j u a b c d : ℕ) where
+module _ (w : ℕ → ℕ) (j : ℕ) (x : Slot) where
   abbrev stored : ℕ → ℕ
-  stored = upd (upd (upd (upd (upd w j u) (j + 1) a) (j + 2) b) (j + 3) c) (j + 4) d
+  stored = upd (upd (upd (upd (upd w j (x .device)) (j + 1) (x .rbps)) (j + 2) (x .wbps)) (j + 3) (x .riops)) (j + 4) (x .wiops)
 
-  stored-device : stored j ≡ u
+  stored-device : stored j ≡ x .device
   stored-device =
-      upd-other _ (j + 4) d j (λ q. omega arith)
-      ∙ upd-other _ (j + 3) c j (λ q. omega arith)
-      ∙ upd-other _ (j + 2) b j (λ q. omega arith)
-      ∙ upd-other _ (j + 1) a j (λ q. omega arith)
-      ∙ upd-same w j u
+      upd-other _ (j + 4) _ j (λ q. omega arith)
+      ∙ upd-other _ (j + 3) _ j (λ q. omega arith)
+      ∙ upd-other _ (j + 2) _ j (λ q. omega arith)
+      ∙ upd-other _ (j + 1) _ j (λ q. omega arith)
+      ∙ upd-same w j _
 
-  stored-rbps : stored (j + 1) ≡ a
+  stored-rbps : stored (j + 1) ≡ x .rbps
   stored-rbps =
-      upd-other _ (j + 4) d (j + 1) (λ q. omega arith)
-      ∙ upd-other _ (j + 3) c (j + 1) (λ q. omega arith)
-      ∙ upd-other _ (j + 2) b (j + 1) (λ q. omega arith)
-      ∙ upd-same _ (j + 1) a
+      upd-other _ (j + 4) _ (j + 1) (λ q. omega arith)
+      ∙ upd-other _ (j + 3) _ (j + 1) (λ q. omega arith)
+      ∙ upd-other _ (j + 2) _ (j + 1) (λ q. omega arith)
+      ∙ upd-same _ (j + 1) _
 
-  stored-wbps : stored (j + 2) ≡ b
-  stored-wbps = upd-other _ (j + 4) d (j + 2) (λ q. omega arith) ∙ upd-other _ (j + 3) c (j + 2) (λ q. omega arith) ∙ upd-same _ (j + 2) b
+  stored-wbps : stored (j + 2) ≡ x .wbps
+  stored-wbps = upd-other _ (j + 4) _ (j + 2) (λ q. omega arith) ∙ upd-other _ (j + 3) _ (j + 2) (λ q. omega arith) ∙ upd-same _ (j + 2) _
 
-  stored-riops : stored (j + 3) ≡ c
-  stored-riops = upd-other _ (j + 4) d (j + 3) (λ q. omega arith) ∙ upd-same _ (j + 3) c
+  stored-riops : stored (j + 3) ≡ x .riops
+  stored-riops = upd-other _ (j + 4) _ (j + 3) (λ q. omega arith) ∙ upd-same _ (j + 3) _
 
-  stored-wiops : stored (j + 4) ≡ d
-  stored-wiops = upd-same _ (j + 4) d
+  stored-wiops : stored (j + 4) ≡ x .wiops
+  stored-wiops = upd-same _ (j + 4) _
 
-pub slot-put : {xs as′ bs cs ds ys : List ℕ} {g j : ℕ} (x : Slot) (a b c d : ℕ) → GroupRow xs g → j + slotWords ≤ rowWords
-    → limitIn a ≡ x .rbps → limitIn b ≡ x .wbps → limitIn c ≡ x .riops → limitIn d ≡ x .wiops
-    → as′ ≡ withWord xs g j (x .device) → bs ≡ withWord as′ g (j + 1) a → cs ≡ withWord bs g (j + 2) b → ds ≡ withWord cs g (j + 3) c
-    → ys ≡ withWord ds g (j + 4) d → SlotPut xs ys g j x
-slot-put {xs} {as′} {bs} {cs} {ds} {ys} {g} {j} x a b c d k l p q r s e f h i o =
+pub slot-put : {xs as′ bs cs ds ys : List ℕ} {g j : ℕ} (x : Slot) → GroupRow xs g → j + slotWords ≤ rowWords
+    → as′ ≡ withWord xs g j (x .device) → bs ≡ withWord as′ g (j + 1) (x .rbps) → cs ≡ withWord bs g (j + 2) (x .wbps)
+    → ds ≡ withWord cs g (j + 3) (x .riops) → ys ≡ withWord ds g (j + 4) (x .wiops) → SlotPut xs ys g j x
+slot-put {xs} {as′} {bs} {cs} {ds} {ys} {g} {j} x k l e f h i o =
     let w : ℕ → ℕ = word xs g in
-    let put : RowPut j (j + slotWords) xs ys g (stored w j (x .device) a b c d) =
-    also (j + 4) d (k .low) (omega arith) (omega arith) (omega arith)
-    (also (j + 3) c (k .low) (omega arith) (omega arith) (omega arith)
-    (also (j + 2) b (k .low) (omega arith) (omega arith) (omega arith)
-    (also (j + 1) a (k .low) (omega arith) (omega arith) (omega arith)
+    let put : RowPut j (j + slotWords) xs ys g (stored w j x) =
+    also (j + 4) (x .wiops) (k .low) (omega arith) (omega arith) (omega arith)
+    (also (j + 3) (x .riops) (k .low) (omega arith) (omega arith) (omega arith)
+    (also (j + 2) (x .wbps) (k .low) (omega arith) (omega arith) (omega arith)
+    (also (j + 1) (x .rbps) (k .low) (omega arith) (omega arith) (omega arith)
     (also j (x .device) (k .low) (omega arith) (omega arith) (omega arith) (row-start xs g (k .long)) e) f) h) i) o in
-    let number : word ys g j ≡ x .device = put .here j (omega arith) ∙ stored-device w j (x .device) a b c d in
-    let rbps : limitIn (word ys g (j + 1)) ≡ x .rbps = ap limitIn (put .here (j + 1) (omega arith) ∙ stored-rbps w j (x .device) a b c d) ∙ p in
-    let wbps : limitIn (word ys g (j + 2)) ≡ x .wbps = ap limitIn (put .here (j + 2) (omega arith) ∙ stored-wbps w j (x .device) a b c d) ∙ q in
-    let riops : limitIn (word ys g (j + 3)) ≡ x .riops = ap limitIn (put .here (j + 3) (omega arith) ∙ stored-riops w j (x .device) a b c d) ∙ r in
-    let wiops : limitIn (word ys g (j + 4)) ≡ x .wiops = ap limitIn (put .here (j + 4) (omega arith) ∙ stored-wiops w j (x .device) a b c d) ∙ s in
+    let number : word ys g j ≡ x .device = put .here j (omega arith) ∙ stored-device w j x in
+    let rbps : word ys g (j + 1) ≡ x .rbps = put .here (j + 1) (omega arith) ∙ stored-rbps w j x in
+    let wbps : word ys g (j + 2) ≡ x .wbps = put .here (j + 2) (omega arith) ∙ stored-wbps w j x in
+    let riops : word ys g (j + 3) ≡ x .riops = put .here (j + 3) (omega arith) ∙ stored-riops w j x in
+    let wiops : word ys g (j + 4) ≡ x .wiops = put .here (j + 4) (omega arith) ∙ stored-wiops w j x in
     record {
       long = put .long;
       here = λ m. record { device = number m; rbps = rbps m; wbps = wbps m; riops = riops m; wiops = wiops m };
@@ -101,10 +98,10 @@ slot-ext v w j e =
     λ i.
     record {
       device = e j (omega arith) (omega arith) i;
-      rbps = limitIn (e (j + 1) (omega arith) (omega arith) i);
-      wbps = limitIn (e (j + 2) (omega arith) (omega arith) i);
-      riops = limitIn (e (j + 3) (omega arith) (omega arith) i);
-      wiops = limitIn (e (j + 4) (omega arith) (omega arith) i);
+      rbps = e (j + 1) (omega arith) (omega arith) i;
+      wbps = e (j + 2) (omega arith) (omega arith) i;
+      riops = e (j + 3) (omega arith) (omega arith) i;
+      wiops = e (j + 4) (omega arith) (omega arith) i;
     }
 
 -- a slot before the one that is stored stays
@@ -156,52 +153,10 @@ module _ {xs as′ bs cs ys : List ℕ} {g : ℕ} (s : Slots) (k : GroupRow xs g
       ∙ ap (λ (l : List Slot). withSettings (withIo (tableOf l) (settingsOf (groupRow (word xs g)))) (groupRow (word xs g))) slots-after)
       (wrote-slots (k .low) put (subst Packed (sym slots-after) q))
 
--- The slots of a live group: ascending too, and with limits that can be stored, as its table is allowed.
+-- The slots of a live group: ascending too, as its table is allowed.
 pub in-order : (xs : List ℕ) (g : ℕ) (s : Slots) → KeptAt xs g → Slotted xs g s → InOrder (rows s)
 in-order xs g s k h =
     record {
       packed = h .packed (k .kept .spare);
       ascending = subst (Ascending 0) (sym (h .table)) (k .kept .formed .ranges .within g (k .live) .table .ascending);
-    }
-
-abbrev pub RatesIn : DeviceLimits → Type 0
-RatesIn x = (k : Key) → rateIn (x .limit k) ≡ true
-
-free-in : (s : Slot) → s ≡ freeSlot → RatesIn (lineOf s)
-free-in s e Rbps = rw e
-free-in s e Wbps = rw e
-free-in s e Riops = rw e
-free-in s e Wiops = rw e
-
--- what is in the table, and what is free
-all-in : (xs : List Slot) → Packed xs → All RatesIn (tableOf xs) → All (λ s. RatesIn (lineOf s)) xs
-unfolding Packed All tableOf
-all-in [] p h = tt
-all-in (x ∷ xs) p h =
-    split (isFree x)
-    (λ y. all-map _ _ (x ∷ xs) free-in (p .0 y))
-    (λ n. let both : All RatesIn (lineOf x ∷ tableOf xs) = rw n at h in (both .0, all-in xs (p .1) (both .1)))
-
-storable-rate : (l : Limit) → rateIn l ≡ true → Storable l
-storable-rate NoLimit e = tt
-storable-rate (Figure n) e = omega (arith, between-le 1 largestRate n e)
-
-storable-slot : (x : Slot) → RatesIn (lineOf x) → StorableSlot x
-storable-slot x h =
-    record {
-      rbps = storable-rate (x .rbps) (h Rbps);
-      wbps = storable-rate (x .wbps) (h Wbps);
-      riops = storable-rate (x .riops) (h Riops);
-      wiops = storable-rate (x .wiops) (h Wiops);
-    }
-
-pub storable-slots : (s : Slots) → Packed (rows s) → All RatesIn (tableOf (rows s)) → StorableSlots s
-unfolding All
-storable-slots s p h =
-    let k = all-in (rows s) p h in
-    record {
-      a = storable-slot (s .a) (k .0);
-      b = storable-slot (s .b) (k .1 .0);
-      c = storable-slot (s .c) (k .1 .1 .0);
-      d = storable-slot (s .d) (k .1 .1 .1 .0);
     }

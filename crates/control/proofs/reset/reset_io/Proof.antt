@@ -2,7 +2,7 @@
 use borrow.Author.Tests.{not-true, not-false}
 use borrow.Author.Needs.{needs}
 use Rattle.control.proofs.WroteLaws.{wrote-group-as, wrote-none}
-use Rattle.control.proofs.ResetLaws.{io-kept, io-gone, no-slots-ready, no-slots-table}
+use Rattle.control.proofs.ResetLaws.{io-kept, io-gone, no-slots-packed, no-slots-table}
 use Rattle.control.proofs.reset.reset_io.Statement.{statement}
 use Rattle.control.proofs.reset.reset_io.Tie as tie
 
@@ -16,7 +16,7 @@ empty-requires : tie.Need-empty-requires
 empty-requires c κs = search needs
 
 set-slots-requires : tie.Need-set-slots-requires
-set-slots-requires c κs = (c .before .before .before .pre, no-slots-ready _ (c .empty .ensures))
+set-slots-requires c κs = (c .before .before .before .pre, no-slots-packed _ (c .empty .ensures))
 
 returns-2 : tie.Need-returns-2
 returns-2 c =

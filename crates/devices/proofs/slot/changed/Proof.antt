@@ -1,20 +1,20 @@
 -- `devices::slot::changed` meets its contract: key by key. Assumes nothing.
-use borrow.Author.Needs.{needs}
+use Rattle.model.specs.declared.Key.the-variants.{Rbps, Wbps, Riops, Wiops}
 use Rattle.devices.proofs.SlotLaws.{slot-changed}
 use Rattle.devices.proofs.slot.changed.Statement.{statement}
 use Rattle.devices.proofs.slot.changed.Tie as tie
 
 or-before-requires : tie.Need-or-before-requires
-or-before-requires c κs = search needs
+or-before-requires c κs = c .pre Rbps
 
 or-before-requires-2 : tie.Need-or-before-requires-2
-or-before-requires-2 c κs = search needs
+or-before-requires-2 c κs = c .before .pre Wbps
 
 or-before-requires-3 : tie.Need-or-before-requires-3
-or-before-requires-3 c κs = search needs
+or-before-requires-3 c κs = c .before .before .pre Riops
 
 or-before-requires-4 : tie.Need-or-before-requires-4
-or-before-requires-4 c κs = search needs
+or-before-requires-4 c κs = c .before .before .before .pre Wiops
 
 returns : tie.Need-returns
 returns c =

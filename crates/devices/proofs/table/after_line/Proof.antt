@@ -1,11 +1,12 @@
 -- `devices::table::after_line` meets its contract: the device's slot, changed, and written back. Assumes nothing.
 use Prim.Native.Nat.{_+_}
 use native.Mathlib.Omega.{arith}
-use mathlib.Core.Path.{_≡_, ap, _∙_}
+use mathlib.Core.Path.{_∙_, subst}
 use borrow.Author.Needs.{needs}
-use Rattle.devices.specs.Slots.{changedSlot, slotOf, rows}
+use Rattle.devices.specs.Slots.{slotOf, rows, SlotChanged}
 use Rattle.devices.specs.declared.slot.Slot.{Slot}
-use Rattle.devices.proofs.SlotLaws.{slot-device, line-written}
+use Rattle.devices.proofs.SlotLaws.{slot-device}
+use Rattle.devices.proofs.LineLaws.{line-written}
 use Rattle.devices.proofs.table.after_line.Statement.{statement}
 use Rattle.devices.proofs.table.after_line.Tie as tie
 
@@ -13,8 +14,8 @@ abbrev start : tie.After-changed → tie.Start
 start c = c .before .before
 
 -- the slot that is written
-slot-after : (c : tie.After-changed) → c .changed .result ≡ changedSlot (slotOf (start c .args .device + 1) (rows (start c .args .s))) (start c .args .pairs)
-slot-after c = c .changed .ensures ∙ ap (λ (x : Slot). changedSlot x (start c .args .pairs)) (c .before .slot-of .ensures)
+slot-after : (c : tie.After-changed) → SlotChanged (slotOf (start c .args .device + 1) (rows (start c .args .s))) (start c .args .pairs) (c .changed .result)
+slot-after c = subst (λ (x : Slot). SlotChanged x (start c .args .pairs) (c .changed .result)) (c .before .slot-of .ensures) (c .changed .ensures)
 
 add-slot-of : tie.Need-add-slot-of
 add-slot-of c = search needs
@@ -23,12 +24,12 @@ slot-of-requires : tie.Need-slot-of-requires
 slot-of-requires c κs = search needs
 
 changed-requires : tie.Need-changed-requires
-changed-requires c κs = search needs
+changed-requires c κs = c .before .pre .1 .1
 
 write-requires : tie.Need-write-requires
 write-requires c κs =
     let a = start c in
-    let number = ap (λ (x : Slot). x .device) (slot-after c) ∙ slot-device _ (rows (a .args .s)) in
+    let number = slot-after c .device ∙ slot-device _ (rows (a .args .s)) in
     (a .pre .0, (λ e. omega (arith, number)))
 
 returns : tie.Need-returns

@@ -1,7 +1,7 @@
 -- `devices::table::without_device` meets its contract: a law for each place. Assumes nothing.
 use native.Mathlib.Omega.{arith}
 use borrow.Author.Needs.{needs}
-use Rattle.devices.proofs.PassLaws.{without-first, without-second, without-third, without-fourth, without-any}
+use Rattle.devices.proofs.WithoutLaws.{without-first, without-second, without-third, without-fourth, without-any}
 use Rattle.devices.proofs.table.without_device.Statement.{statement}
 use Rattle.devices.proofs.table.without_device.Tie as tie
 

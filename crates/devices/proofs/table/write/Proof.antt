@@ -1,7 +1,7 @@
 -- `devices::table::write` meets its contract: out where the line is all "max", else in. Assumes nothing.
 use mathlib.Core.Path.{sym, _∙_}
 use borrow.Author.Needs.{needs}
-use Rattle.devices.proofs.PassLaws.{written-out, written-in}
+use Rattle.devices.proofs.LineLaws.{written-out, written-in}
 use Rattle.devices.proofs.table.write.Statement.{statement}
 use Rattle.devices.proofs.table.write.Tie as tie
 

@@ -5,7 +5,7 @@ use Rattle.model.specs.Calls.{make, verdict}
 use Rattle.model.specs.declared.Answer.the-variants.{Done}
 use Rattle.tree.specs.Layout.{view}
 use Rattle.tree.proofs.CallLaws.{call-stays, call-done}
-use Rattle.groups.proofs.MakeLaws.{makeable, make-countable, applied-make}
+use Rattle.groups.proofs.MakeLaws.{makeable, make-countable, new-blank, applied-make}
 use borrow.Author.Needs.{needs}
 use Rattle.groups.proofs.make.make.Statement.{statement}
 use Rattle.groups.proofs.make.make.Tie as tie
@@ -45,7 +45,8 @@ adjust-requires c κs =
 set-group-requires : tie.Need-set-group-requires
 set-group-requires c κs =
     let d = c .before .before .before .before .before in
-    record { long = c .before .adjust .ensures .long; low = makeable _ _ _ _ (accepted d) .low }
+    let j = c .before .adjust .ensures in
+    (record { long = j .long; low = makeable _ _ _ _ (accepted d) .low }, new-blank _ (d .before .before .before .before .pre) _ _ _ (accepted d) _ j)
 
 -- done
 returns-2 : tie.Need-returns-2

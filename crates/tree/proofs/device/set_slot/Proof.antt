@@ -10,17 +10,11 @@ set-word-requires c κs = search needs
 add-set-word : tie.Need-add-set-word
 add-set-word c = search needs
 
-limit-word-requires : tie.Need-limit-word-requires
-limit-word-requires c κs = search needs
-
 set-word-requires-2 : tie.Need-set-word-requires-2
 set-word-requires-2 c κs = search needs
 
 add-set-word-2 : tie.Need-add-set-word-2
 add-set-word-2 c = search needs
-
-limit-word-requires-2 : tie.Need-limit-word-requires-2
-limit-word-requires-2 c κs = search needs
 
 set-word-requires-3 : tie.Need-set-word-requires-3
 set-word-requires-3 c κs = search needs
@@ -28,30 +22,23 @@ set-word-requires-3 c κs = search needs
 add-set-word-3 : tie.Need-add-set-word-3
 add-set-word-3 c = search needs
 
-limit-word-requires-3 : tie.Need-limit-word-requires-3
-limit-word-requires-3 c κs = search needs
-
 set-word-requires-4 : tie.Need-set-word-requires-4
 set-word-requires-4 c κs = search needs
 
 add-set-word-4 : tie.Need-add-set-word-4
 add-set-word-4 c = search needs
 
-limit-word-requires-4 : tie.Need-limit-word-requires-4
-limit-word-requires-4 c κs = search needs
-
 set-word-requires-5 : tie.Need-set-word-requires-5
 set-word-requires-5 c κs = search needs
 
 returns : tie.Need-returns
 returns c =
-    let fourth = c .before .before .before in
-    let third = fourth .before .before .before in
-    let second = third .before .before .before in
-    let first = second .before .before .before in
+    let fourth = c .before .before in
+    let third = fourth .before .before in
+    let second = third .before .before in
+    let first = second .before .before in
     let s = first .before .before in
-    slot-put (s .args .x) _ _ _ _ (s .pre .0) (s .pre .1 .0)
-    (second .before .limit-word .ensures) (third .before .limit-word2 .ensures) (fourth .before .limit-word3 .ensures) (c .before .limit-word4 .ensures)
+    slot-put (s .args .x) (s .pre .0) (s .pre .1)
     (first .set-word .ensures) (second .set-word2 .ensures) (third .set-word3 .ensures) (fourth .set-word4 .ensures) (c .set-word5 .ensures)
 
 pub set-slot-spec : {M : Type 1} → statement M
@@ -60,15 +47,11 @@ set-slot-spec =
     (tie.spec
     set-word-requires
     add-set-word
-    limit-word-requires
     set-word-requires-2
     add-set-word-2
-    limit-word-requires-2
     set-word-requires-3
     add-set-word-3
-    limit-word-requires-3
     set-word-requires-4
     add-set-word-4
-    limit-word-requires-4
     set-word-requires-5
     returns)

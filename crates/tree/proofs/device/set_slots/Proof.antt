@@ -37,7 +37,7 @@ returns c =
     let second = third .before .before in
     let first = second .before .before in
     let s = first .before .before .before .before .before .before in
-    wrote-table (s .args .s) (s .pre .0) (s .pre .1 .1) (first .set-slot .ensures) (second .set-slot2 .ensures) (third .set-slot3 .ensures) (c .set-slot4 .ensures)
+    wrote-table (s .args .s) (s .pre .0) (s .pre .1) (first .set-slot .ensures) (second .set-slot2 .ensures) (third .set-slot3 .ensures) (c .set-slot4 .ensures)
 
 pub set-slots-spec : {M : Type 1} → statement M
 set-slots-spec =

@@ -14,69 +14,52 @@ add-i c = search needs
 add-i-2 : tie.Need-add-i-2
 add-i-2 c = search needs
 
-add-limit-in : tie.Need-add-limit-in
-add-limit-in c = search needs
+mul-t5 : tie.Need-mul-t5
+mul-t5 c = search needs
 
-mul-limit-in : tie.Need-mul-limit-in
-mul-limit-in c = search needs
+element-copy-out-t10 : tie.Need-element-copy-out-t10
+element-copy-out-t10 c = search needs
 
-element-copy-out-limit-in : tie.Need-element-copy-out-limit-in
-element-copy-out-limit-in c = search needs
+add-t7 : tie.Need-add-t7
+add-t7 c = search needs
 
-limit-in-requires : tie.Need-limit-in-requires
-limit-in-requires c κs = search needs
+mul-t6 : tie.Need-mul-t6
+mul-t6 c = search needs
 
-add-limit-in-2 : tie.Need-add-limit-in-2
-add-limit-in-2 c = search needs
+element-copy-out-t13 : tie.Need-element-copy-out-t13
+element-copy-out-t13 c = search needs
 
-mul-limit-in-2 : tie.Need-mul-limit-in-2
-mul-limit-in-2 c = search needs
+add-t14 : tie.Need-add-t14
+add-t14 c = search needs
 
-element-copy-out-limit-in-2 : tie.Need-element-copy-out-limit-in-2
-element-copy-out-limit-in-2 c = search needs
+mul-t15 : tie.Need-mul-t15
+mul-t15 c = search needs
 
-limit-in-requires-2 : tie.Need-limit-in-requires-2
-limit-in-requires-2 c κs = search needs
+element-copy-out-t18 : tie.Need-element-copy-out-t18
+element-copy-out-t18 c = search needs
 
-add-limit-in-3 : tie.Need-add-limit-in-3
-add-limit-in-3 c = search needs
+add-t19 : tie.Need-add-t19
+add-t19 c = search needs
 
-mul-limit-in-3 : tie.Need-mul-limit-in-3
-mul-limit-in-3 c = search needs
+mul-t20 : tie.Need-mul-t20
+mul-t20 c = search needs
 
-element-copy-out-limit-in-3 : tie.Need-element-copy-out-limit-in-3
-element-copy-out-limit-in-3 c = search needs
+element-copy-out-t23 : tie.Need-element-copy-out-t23
+element-copy-out-t23 c = search needs
 
-limit-in-requires-3 : tie.Need-limit-in-requires-3
-limit-in-requires-3 c κs = search needs
+add-t24 : tie.Need-add-t24
+add-t24 c = search needs
 
-add-limit-in-4 : tie.Need-add-limit-in-4
-add-limit-in-4 c = search needs
+mul-t25 : tie.Need-mul-t25
+mul-t25 c = search needs
 
-mul-limit-in-4 : tie.Need-mul-limit-in-4
-mul-limit-in-4 c = search needs
-
-element-copy-out-limit-in-4 : tie.Need-element-copy-out-limit-in-4
-element-copy-out-limit-in-4 c = search needs
-
-limit-in-requires-4 : tie.Need-limit-in-requires-4
-limit-in-requires-4 c κs = search needs
-
-mul-t10 : tie.Need-mul-t10
-mul-t10 c = search needs
-
-element-copy-out-t14 : tie.Need-element-copy-out-t14
-element-copy-out-t14 c = search needs
+element-copy-out-t28 : tie.Need-element-copy-out-t28
+element-copy-out-t28 c = search needs
 
 returns : tie.Need-returns
 returns c =
-    let fourth = c .before in
-    let third = fourth .before .before in
-    let second = third .before .before in
-    let first = second .before .before in
-    let a = first .before .before .args in
-    slot-read (a .t .now) (a .g .0) (a .place) _ refl _ _ _ _
-    (first .limit-in .ensures) (second .limit-in2 .ensures) (third .limit-in3 .ensures) (fourth .limit-in4 .ensures)
+    let a = c .before .before .before .before .before .args in
+    slot-read (a .t .now) (a .g .0) (a .place) _ refl
 
 pub slot-spec : {M : Type 1} → statement M
 slot-spec =
@@ -85,22 +68,18 @@ slot-spec =
     mul-i
     add-i
     add-i-2
-    add-limit-in
-    mul-limit-in
-    element-copy-out-limit-in
-    limit-in-requires
-    add-limit-in-2
-    mul-limit-in-2
-    element-copy-out-limit-in-2
-    limit-in-requires-2
-    add-limit-in-3
-    mul-limit-in-3
-    element-copy-out-limit-in-3
-    limit-in-requires-3
-    add-limit-in-4
-    mul-limit-in-4
-    element-copy-out-limit-in-4
-    limit-in-requires-4
-    mul-t10
-    element-copy-out-t14
+    mul-t5
+    element-copy-out-t10
+    add-t7
+    mul-t6
+    element-copy-out-t13
+    add-t14
+    mul-t15
+    element-copy-out-t18
+    add-t19
+    mul-t20
+    element-copy-out-t23
+    add-t24
+    mul-t25
+    element-copy-out-t28
     returns)

@@ -1,8 +1,8 @@
--- `tree::row::limit_in` meets its contract. Assumes nothing.
+-- `devices::limit::limit_in` meets its contract. Assumes nothing.
 use borrow.Author.Tests.{eq-eqb, ne-eqb}
 use borrow.Author.Needs.{needs}
-use Rattle.tree.proofs.row.limit_in.Statement.{statement}
-use Rattle.tree.proofs.row.limit_in.Tie as tie
+use Rattle.devices.proofs.limit.limit_in.Statement.{statement}
+use Rattle.devices.proofs.limit.limit_in.Tie as tie
 
 returns : tie.Need-returns
 returns c = simp (eq-eqb _ _ (c .if1 .taken))

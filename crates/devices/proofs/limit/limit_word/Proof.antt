@@ -1,9 +1,9 @@
--- `tree::row::limit_word` meets its contract. Assumes nothing.
+-- `devices::limit::limit_word` meets its contract. Assumes nothing.
 use mathlib.Core.Path.{_∙_, sym}
-use Rattle.tree.proofs.SetterLaws.{limit-in-figure, storable-figure}
+use Rattle.devices.proofs.LimitWordLaws.{limit-in-figure, storable-figure}
 use borrow.Author.Needs.{needs}
-use Rattle.tree.proofs.row.limit_word.Statement.{statement}
-use Rattle.tree.proofs.row.limit_word.Tie as tie
+use Rattle.devices.proofs.limit.limit_word.Statement.{statement}
+use Rattle.devices.proofs.limit.limit_word.Tie as tie
 
 enum-known-l : tie.Need-enum-known-l
 enum-known-l c = search needs
