@@ -9,7 +9,7 @@ use mathlib.Core.Path.{_≡_, refl, ap, sym, _∙_, fun-ext, subst}
 use lib.Dec.{ltb}
 use lib.ListN.{length}
 use borrow.Author.Tests.{ltb-true, ltb-false, lt-ltb, le-ltb}
-use Rattle.model.specs.Functions.{upd, pick, All}
+use Rattle.model.specs.Functions.{upd, pick}
 use Rattle.model.specs.Sizes.{groups}
 use Rattle.model.specs.Tree.{Tree, Core, Group, Controls, defaultCpu, withCpu, withIo, withAmounts, withLimit, withSet, withSettings, settingsOf, cores, lives}
 use Rattle.model.specs.Devices.{DeviceLimits}

@@ -6,11 +6,11 @@ use mathlib.Core.Logic.{_≢_}
 use mathlib.Core.Path.{_≡_, sym, _∙_, subst}
 use lib.Dec.{eqb}
 use borrow.Author.Tests.{eqb-true, eqb-false, eq-eqb, ne-eqb}
-use Rattle.model.specs.Devices.{isMax, orBefore}
+use Rattle.model.specs.Devices.{isMax}
 use Rattle.model.specs.declared.Limit.{Limit}
 use Rattle.model.specs.declared.Limit.the-variants.{NoLimit, Figure}
 use Rattle.model.specs.declared.Pair.{Pair}
-use Rattle.model.specs.declared.Pair.the-variants.{Absent, Given}
+use Rattle.model.specs.declared.Pair.the-variants.{Given}
 use Rattle.model.proofs.FunctionLaws.{split}
 use Rattle.devices.specs.LimitWords.{limitIn, Storable, StorablePair}
 
