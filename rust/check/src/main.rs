@@ -6,6 +6,8 @@
 use std::env;
 use std::fs;
 use std::process::ExitCode;
+use std::sync::mpsc;
+use std::thread;
 use std::time::{Duration, Instant};
 
 use shootspiral_check::explore::{Counts, Found, search};
@@ -26,7 +28,7 @@ shootspiral-check replay FILE...
   --reached   print how often the lists came to each check of each call, to pairs of checks
               that both hold and to each kind of what is read; fail where they never did
   --fault N   compare a wrong host with the model, which has fault N and is then found
-  --faults    find every fault, one after the other
+  --faults    find every fault
   --help      this text, and the faults
 
   FILE    a list of calls with their answers, as tests/linux has them; the first line that library
@@ -111,8 +113,7 @@ fn compare(task: &Task) -> bool {
     let start = Instant::now();
     let mut counts = Counts::new();
     if let Some(found) = task.search(Linked::fresh, &mut counts) {
-        report(&found, counts.all());
-        shorter(&found.shortest(Linked::fresh));
+        print!("{}{}", report(&found, counts.all()), shorter(&found.shortest(Linked::fresh)));
         return false;
     }
     let (calls, refused) = (counts.all(), counts.refused());
@@ -159,37 +160,62 @@ fn replay_file(file: &str) -> Result<Tally, String> {
     replay(&list, Linked::fresh).map_err(|mismatch| mismatch.to_string())
 }
 
-/// Looks for faults. Answers whether all are found.
+/// Looks for faults, on every core at once, and prints them in their order. Answers whether all are
+/// found.
 fn find(task: &Task) -> bool {
+    let cores = thread::available_parallelism().map_or(1, usize::from);
     let mut missed = 0;
-    for &number in &task.faults {
-        let fault = Fault::ALL[number - 1];
-        let mut counts = Counts::new();
-        println!("fault {number}: {fault}");
-        let wrong = |machine| Faulty::new(machine, fault);
-        match task.search(wrong, &mut counts) {
-            Some(found) => {
-                report(&found, counts.all());
-                shorter(&found.shortest_within(PATIENCE, wrong));
-            }
-            None => {
-                println!("not found in {} calls\n", counts.all());
-                missed += 1;
-            }
+    thread::scope(|scope| {
+        let looking = |first: usize| {
+            let (sender, receiver) = mpsc::channel();
+            scope.spawn(move || {
+                for &number in task.faults.iter().skip(first).step_by(cores) {
+                    sender.send(find_one(task, number)).expect("all are waited for");
+                }
+            });
+            receiver
+        };
+        let results: Vec<_> = (0..cores).map(looking).collect();
+        for place in 0..task.faults.len() {
+            let (text, is_found) = results[place % cores].recv().expect("all are looked for");
+            print!("{text}");
+            missed += usize::from(!is_found);
         }
-    }
+    });
     if task.faults.len() > 1 {
         println!("{} of {} faults found", task.faults.len() - missed, task.faults.len());
     }
     missed == 0
 }
 
-fn report(found: &Found, calls: u64) {
-    println!("{} differs after {} of its calls", found.name, found.calls.len());
-    println!("({calls} calls in all)");
+/// Looks for a fault. Answers what to print, and whether it is found.
+fn find_one(task: &Task, number: usize) -> (String, bool) {
+    let fault = Fault::ALL[number - 1];
+    let mut counts = Counts::new();
+    let wrong = |machine| Faulty::new(machine, fault);
+    let head = format!("fault {number}: {fault}\n");
+    match task.search(wrong, &mut counts) {
+        Some(found) => {
+            let told = head + &report(&found, counts.all());
+            (told + &shorter(&found.shortest_within(PATIENCE, wrong)), true)
+        }
+        None => (head + &format!("not found in {} calls\n\n", counts.all()), false),
+    }
 }
 
-fn shorter(found: &Found) {
-    println!("shortest list found, {} calls:\n\n{}", found.calls.len(), found.as_test());
-    println!("at the last call, {}\n", found.difference);
+fn report(found: &Found, calls: u64) -> String {
+    format!(
+        "{} differs after {} of its calls\n({calls} calls in all)\n",
+        found.name,
+        found.calls.len()
+    )
+}
+
+fn shorter(found: &Found) -> String {
+    format!(
+        "shortest list found, {} calls:\n\n{}\nat the last call, {}\n\n",
+        found.calls.len(),
+        found.as_test(),
+        found.difference
+    )
 }
