@@ -9,10 +9,10 @@ use Rattle.model.specs.Tree.{Tree}
 use Rattle.model.specs.Control.{Ask, setAfter, isWanted, joins, leaves, asked, anyIn, anyController}
 use Rattle.model.specs.declared.Controller.{Controller}
 use Rattle.model.specs.declared.Controller.the-variants.{Cpu, Io, Memory, Pids}
-use Rattle.text.specs.Control.{askOf, AsksOf}
-use Rattle.text.specs.declared.control.Wishes.{Wishes}
-use Rattle.text.specs.declared.control.Wish.{Wish}
-use Rattle.text.specs.declared.control.Wish.the-variants.{Keep, Enable, Disable}
+use Rattle.lines.specs.Control.{askOf, AsksOf}
+use Rattle.lines.specs.declared.control.Wishes.{Wishes}
+use Rattle.lines.specs.declared.control.Wish.{Wish}
+use Rattle.lines.specs.declared.control.Wish.the-variants.{Keep, Enable, Disable}
 use Rattle.control.specs.Flags.{asksOf, flagOf, forEach, joinsPopulated}
 use Rattle.control.specs.declared.flags.Flags.{Flags}
 

@@ -24,7 +24,7 @@ use Rattle.model.proofs.SettingLaws.{range-of-quota}
 use Rattle.tree.specs.Layout.{view}
 use Rattle.devices.specs.LimitWords.{Storable}
 use Rattle.tree.specs.Changes.{GroupRow, Wrote}
-use Rattle.text.proofs.AmountLaws.{figure-low}
+use Rattle.lines.proofs.AmountLaws.{figure-low}
 use Rattle.control.specs.Stores.{changedAt}
 use Rattle.control.specs.Values.{Settable, Stored}
 

@@ -34,7 +34,7 @@ use Rattle.model.specs.declared.Answer.{Answer}
 use Rattle.tree.specs.Layout.{view}
 use Rattle.tree.specs.Kept.{Kept, Fresh}
 use Rattle.tree.specs.Calling.{Answered}
-use Rattle.text.specs.Control.{IsPart}
+use Rattle.lines.specs.Control.{IsPart}
 use Rattle.shootspiral.specs.Interface.{groupWord, roomWords, partWords, Told}
 use Rattle.demands.specs.Runs.{Runs, Along}
 use Rattle.demands.specs.Texts.{FindsText}

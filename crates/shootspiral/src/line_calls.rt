@@ -8,9 +8,9 @@ ghost use Rattle.shootspiral.specs.Interface.{partWords};
 use super::number::answer_number;
 use control::setting::write_setting;
 use control::subtree::write_subtree_control;
+use lines::control::bad_span;
 use model::GroupId;
 use processes::migration::write_procs;
-use text::control::bad_span;
 use text::line::line_end;
 use tree::layout::Tree;
 

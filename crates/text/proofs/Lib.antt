@@ -1,15 +1,8 @@
 pub mod LineLaws
 pub mod WordLaws
 pub mod SplitLaws
-pub mod NameLaws
 pub mod NumberLaws
-pub mod ControlLaws
-pub mod BadWordLaws
 pub mod LimitLaws
 pub mod CutLaws
-pub mod PairLaws
-pub mod RangeLaws
-pub mod ValueLaws
-pub mod AmountLaws
 pub mod WriteLaws
 pub mod DecimalLaws

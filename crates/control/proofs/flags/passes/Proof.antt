@@ -2,7 +2,7 @@
 use mathlib.Core.Bool.{Bool}
 use mathlib.Core.Path.{_≡_, ap, sym, _∙_}
 use borrow.Author.Needs.{needs}
-use Rattle.text.specs.Control.{askOf}
+use Rattle.lines.specs.Control.{askOf}
 use Rattle.tree.specs.Layout.{view}
 use Rattle.control.specs.Flags.{testAt}
 use Rattle.control.specs.declared.flags.Test.{Test}

@@ -17,7 +17,7 @@ use Rattle.model.specs.Rules.{mayWrite}
 use Rattle.model.specs.Calls.{settingChecks}
 use Rattle.model.proofs.CheckLaws.{says-first}
 use Rattle.model.proofs.VetLaws.{tested, may-write-parent, vets}
-use Rattle.text.proofs.NameLaws.{is-setting, no-setting}
+use Rattle.lines.proofs.NameLaws.{is-setting, no-setting}
 use Rattle.tree.specs.Layout.{view}
 use Rattle.tree.proofs.KeptLaws.{live-row, parent-low}
 use Rattle.control.proofs.VetLaws.{setting-on}

@@ -9,9 +9,9 @@ use Rattle.model.specs.Text.{lineWords}
 use Rattle.model.specs.Settings.{valueOf, inRange}
 use Rattle.model.specs.declared.SettingValue.{SettingValue}
 use Rattle.model.proofs.VetLaws.{tested, vets}
-use Rattle.text.specs.Value.{asLineValue}
-use Rattle.text.specs.declared.value.LineValue.{LineValue}
-use Rattle.text.proofs.ValueLaws.{is-malformed, is-known, is-ranged, is-value}
+use Rattle.lines.specs.Value.{asLineValue}
+use Rattle.lines.specs.declared.value.LineValue.{LineValue}
+use Rattle.lines.proofs.ValueLaws.{is-malformed, is-known, is-ranged, is-value}
 use Rattle.control.specs.Values.{valueChecks}
 use Rattle.control.proofs.setting.vet_value.Statement.{statement}
 use Rattle.control.proofs.setting.vet_value.Tie as tie

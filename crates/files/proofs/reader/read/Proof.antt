@@ -12,8 +12,8 @@ use Rattle.model.specs.Tree.{lives}
 use Rattle.model.specs.Names.{fileName, files, fileNamed}
 use Rattle.model.specs.Calls.{read}
 use Rattle.model.specs.declared.ReadAnswer.{ReadAnswer}
-use Rattle.text.specs.Name.{firstFile}
-use Rattle.text.proofs.NameLaws.{named-at, named-none}
+use Rattle.lines.specs.Name.{firstFile}
+use Rattle.lines.proofs.NameLaws.{named-at, named-none}
 use Rattle.tree.specs.Layout.{view}
 use Rattle.tree.specs.Kept.{KeptAt}
 use Rattle.tree.specs.Calling.{Delivering}

@@ -1,7 +1,7 @@
 -- `shootspiral::line_calls::ss_first_bad_word` meets its contract. Assumes nothing.
 use mathlib.Core.List.{[], _∷_}
 use mathlib.Core.Path.{ap₂}
-use Rattle.text.proofs.BadWordLaws.{bad-start, bad-size}
+use Rattle.lines.proofs.BadWordLaws.{bad-start, bad-size}
 use Rattle.text.proofs.SplitLaws.{text-length}
 use borrow.Author.Needs.{needs}
 use Rattle.shootspiral.proofs.line_calls.ss_first_bad_word.Statement.{statement}

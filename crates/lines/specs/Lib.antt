@@ -1,0 +1,4 @@
+pub mod Name
+pub mod Control
+pub mod Pair
+pub mod Value
