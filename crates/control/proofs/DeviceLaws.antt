@@ -24,7 +24,7 @@ use Rattle.model.proofs.FunctionLaws.{and-left, and-right, clash}
 use Rattle.model.proofs.FigureLaws.{between-le}
 use Rattle.model.proofs.DeviceLaws.{of-keys}
 use Rattle.devices.specs.LimitWords.{StorablePair, StorablePairs}
-use Rattle.devices.specs.Slots.{isFree, tableOf, Packed, InOrder, rows, LineWritten}
+use Rattle.devices.specs.Slots.{isFree, tableOf, InOrder, rows, LineWritten}
 use Rattle.devices.specs.declared.table.Slots.{Slots}
 use Rattle.devices.specs.declared.table.Passed.{Passed}
 use Rattle.tree.specs.Layout.{view}
@@ -33,6 +33,7 @@ use Rattle.tree.proofs.SlotLaws.{in-order}
 use Rattle.control.specs.Values.{Settable, Stored}
 use Rattle.control.proofs.WroteLaws.{wrote-group-as}
 
+-- a pair in its range has a word
 storable-pair : (p : Pair) → pairIn p ≡ true → StorablePair p
 storable-pair Absent e = tt
 storable-pair (Given NoLimit) e = tt
@@ -73,9 +74,6 @@ module _ (xs : List ℕ) (g a b : ℕ) (p : Pairs) (k : Settable xs g (Device a 
     module _ (free : isFree (r .out) ≡ true) where
       table-after : tableOf (rows (r .slots)) ≡ assign (Device a b p) settings .io
       table-after = w .table free ∙ table-same
-
-      pub slots-ready : Packed (rows (r .slots))
-      slots-ready = w .packed free
 
       pub stored-device : (ys : List ℕ) → Wrote xs ys (ioSet (view xs) g (tableOf (rows (r .slots)))) → Stored xs ys g (Device a b p) true
       unfolding assign

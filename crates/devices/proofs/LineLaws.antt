@@ -18,30 +18,28 @@ use Rattle.devices.proofs.TableLaws.{slot-limits, table-front, packed-f
 use Rattle.devices.proofs.PassLaws.{pass-with-device, packed-passed}
 use Rattle.devices.proofs.WithoutLaws.{packed-more, packed-without, without-with-device}
 
--- A slot written, either way.
+-- A slot written: whether there is room follows from what is packed.
+written : {s : Slots} {x : Slot} (r : Passed) → tableOf (slotsOf r) ≡ withDevice (x .device - 1) (limitsOf x) (tableOf (rows s)) → Packed (slotsOf r)
+    → Written s x r
+written r e p = record { table = e; packed = p; room = room-of-five (r .slots .a) (r .slots .b) (r .slots .c) (r .slots .d) (r .out) p }
+
+-- either way
 module _ (s : Slots) (x : Slot) (k : InOrder (rows s)) (h : x .device ≢ 0) where
   pub written-out : (t : Slots) (f : Slot) → f ≡ freeSlot → allMax (limitsOf x) ≡ true → rows t ≡ without (x .device) (rows s)
       → Written s x (record { slots = t; out = f })
   written-out t f e m r =
-      record {
-        table =
-            ap tableOf (all r)
-            ∙ table-front (without (x .device) (rows s)) freeSlot refl
-            ∙ without-with-device (x .device) h (limitsOf x) m 0 (rows s) (k .ascending) (k .packed);
-        room = room-of-five (t .a) (t .b) (t .c) (t .d) f (subst Packed (sym (all r)) (packed-more (without (x .device) (rows s)) (packed-without (x .device) h (rows s) (k .packed))));
-        packed = subst Packed (sym (all r)) (packed-more (without (x .device) (rows s)) (packed-without (x .device) h (rows s) (k .packed)));
-      }
-    where
-      all : rows t ≡ without (x .device) (rows s) → slotsOf (record { slots = t; out = f }) ≡ without (x .device) (rows s) ++ (freeSlot ∷ [])
-      all r = rw e (ap (λ (l : List Slot). l ++ (freeSlot ∷ [])) r)
+      let all : slotsOf (record { slots = t; out = f }) ≡ without (x .device) (rows s) ++ (freeSlot ∷ []) =
+      rw e (ap (λ (l : List Slot). l ++ (freeSlot ∷ [])) r) in
+      written (record { slots = t; out = f })
+      (ap tableOf all
+      ∙ table-front (without (x .device) (rows s)) freeSlot refl
+      ∙ without-with-device (x .device) h (limitsOf x) m 0 (rows s) (k .ascending))
+      (subst Packed (sym all) (packed-more (without (x .device) (rows s)) (packed-without (x .device) h (rows s) (k .packed))))
 
   pub written-in : (r : Passed) → allMax (limitsOf x) ≡ false → slotsOf r ≡ passed x (rows s) → Written s x r
   written-in r m e =
-      record {
-        table = ap tableOf e ∙ pass-with-device 0 x (rows s) h m (k .packed) (k .ascending);
-        room = room-of-five (r .slots .a) (r .slots .b) (r .slots .c) (r .slots .d) (r .out) (subst Packed (sym e) (packed-passed x (rows s) (λ z. absurd (h z)) (k .packed)));
-        packed = subst Packed (sym e) (packed-passed x (rows s) (λ z. absurd (h z)) (k .packed));
-      }
+      written r (ap tableOf e ∙ pass-with-device 0 x (rows s) h m (k .packed) (k .ascending))
+      (subst Packed (sym e) (packed-passed x (rows s) (λ z. absurd (h z)) (k .packed)))
 
 -- A line for a device.
 module _ (s : Slots) (d : ℕ) (p : Pairs) (x : Slot) (r : Passed) (k : Packed (rows s)) (e : SlotChanged (slotOf (d + 1) (rows s)) p x)
@@ -65,5 +63,5 @@ module _ (s : Slots) (d : ℕ) (p : Pairs) (x : Slot) (r : Passed) (k : Packed (
       record {
         room = sym (w .room) ∙ rw table-after;
         table = λ free. sym (table-front (rows (r .slots)) (r .out) free) ∙ table-after;
-        packed = λ free. packed-front (rows (r .slots)) (r .out) (w .packed);
+        packed = packed-front (rows (r .slots)) (r .out) (w .packed);
       }

@@ -1,5 +1,5 @@
--- Slots and the table that they stand for: a slot and those after it, the limits of a device, packed slots, the same table twice. Assumes
--- nothing.
+-- Slots and the table that they stand for: a slot and those after it, the limits of a device, packed slots, whether there is room,
+-- and that one table has one list of slots. Assumes nothing.
 use Prim.Native.Nat.{ℕ, suc, _+_, _-_, _≤_, _<_}
 use native.Mathlib.Omega.{arith}
 use mathlib.Core.Bool.{true}
@@ -12,6 +12,7 @@ use borrow.Author.Tests.{eqb-true, eqb-false, eq-eqb, ne-eqb, le-leb, lt-leb}
 use Rattle.model.specs.Functions.{pick, All}
 use Rattle.model.specs.Sizes.{mostDevices}
 use Rattle.model.specs.Devices.{DeviceLimits, limitsAt, Ascending}
+use Rattle.model.specs.declared.Limit.the-variants.{NoLimit}
 use Rattle.model.specs.declared.Key.{Key}
 use Rattle.model.specs.declared.Key.the-variants.{Rbps, Wbps, Riops, Wiops}
 use Rattle.model.proofs.FunctionLaws.{split}
@@ -57,7 +58,13 @@ pub packed-taken : (x : Slot) (xs : List Slot) → x .device ≢ 0 → Packed xs
 unfolding Packed
 packed-taken x xs h p = ((λ y. absurd (h (eqb-true (x .device) 0 y))), p)
 
--- its limits are what the table says
+-- The limits of a device's slot are what the table says.
+no-limits : (w : ℕ) (k : Key) → limitsOf (unlimited w) k ≡ NoLimit
+no-limits w Rbps = refl
+no-limits w Wbps = refl
+no-limits w Riops = refl
+no-limits w Wiops = refl
+
 module _ (d : ℕ) where
   at-head : (x : Slot) (xs : List DeviceLimits) (k : Key) → x .device ≡ d + 1 → limitsAt d (lineOf x ∷ xs) k ≡ limitsOf x k
   unfolding limitsAt
@@ -67,33 +74,17 @@ module _ (d : ℕ) where
   unfolding limitsAt
   at-tail x xs k h e = rw (ne-eqb (x .device - 1) d (λ z. e (omega arith)))
 
-  at-free : (x : Slot) (xs : List Slot) (k : Key) → x .device ≡ 0 → limitsAt d (tableOf (x ∷ xs)) k ≡ limitsOf (unlimited 0) k
+  at-free : (x : Slot) (xs : List Slot) (k : Key) → x .device ≡ 0 → limitsAt d (tableOf (x ∷ xs)) k ≡ NoLimit
   unfolding limitsAt tableOf
-  at-free x xs Rbps h = rw (eq-eqb (x .device) 0 h)
-  at-free x xs Wbps h = rw (eq-eqb (x .device) 0 h)
-  at-free x xs Riops h = rw (eq-eqb (x .device) 0 h)
-  at-free x xs Wiops h = rw (eq-eqb (x .device) 0 h)
-
-  none-at : (k : Key) → limitsOf (unlimited (d + 1)) k ≡ limitsOf (unlimited 0) k
-  none-at Rbps = refl
-  none-at Wbps = refl
-  none-at Riops = refl
-  none-at Wiops = refl
-
-  no-slot : (k : Key) → limitsOf (slotOf (d + 1) []) k ≡ limitsAt d (tableOf []) k
-  unfolding slotOf tableOf limitsAt
-  no-slot Rbps = refl
-  no-slot Wbps = refl
-  no-slot Riops = refl
-  no-slot Wiops = refl
+  at-free x xs k h = rw (eq-eqb (x .device) 0 h)
 
   pub slot-limits : (xs : List Slot) → Packed xs → (k : Key) → limitsOf (slotOf (d + 1) xs) k ≡ limitsAt d (tableOf xs) k
-  unfolding Packed All
-  slot-limits [] p k = no-slot k
+  unfolding Packed All slotOf tableOf limitsAt
+  slot-limits [] p k = no-limits (d + 1) k
   slot-limits (x ∷ xs) p k =
       split (eqb (x .device) 0)
       (λ y. ap (λ (s : Slot). limitsOf s k) (slot-of-free (d + 1) (x ∷ xs) (λ e. omega arith) (p .0 y))
-      ∙ none-at k
+      ∙ no-limits (d + 1) k
       ∙ sym (at-free x xs k (eqb-true (x .device) 0 y)))
       (λ n. let taken : x .device ≢ 0 = eqb-false (x .device) 0 n in
       let table : limitsAt d (tableOf (x ∷ xs)) k ≡ limitsAt d (lineOf x ∷ tableOf xs) k =

@@ -1,4 +1,4 @@
--- `withDevice` by where the device that is written stands. Assumes nothing.
+-- Two numbers by which is lower, and `withDevice` by where the device that is written stands. Assumes nothing.
 use Prim.Native.Nat.{ℕ, _<_}
 use native.Mathlib.Omega.{arith}
 use mathlib.Core.Bool.{true, false}

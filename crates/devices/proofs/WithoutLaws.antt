@@ -14,7 +14,7 @@ use Rattle.model.specs.declared.Key.{Key}
 use Rattle.model.proofs.FunctionLaws.{split}
 use Rattle.devices.specs.Slots.{freeSlot, lineOf, tableOf, Packed, without}
 use Rattle.devices.specs.declared.slot.Slot.{Slot}
-use Rattle.devices.proofs.TableLaws.{taken-or-free, table-free, table-taken, packed-rest, ascending-first, ascending-rest, table-front}
+use Rattle.devices.proofs.TableLaws.{taken-or-free, table-free, table-taken, ascending-first, ascending-rest, table-front}
 use Rattle.devices.proofs.WithLaws.{compare, entered-max, with-none, with-below, with-same, with-above}
 
 -- a free slot more
@@ -44,16 +44,16 @@ module _ (w : ℕ) (some : w ≢ 0) where
       (λ n. rw n ((λ y. (p .0 y .0, all-free-without xs (p .0 y .1))), packed-without xs (p .1)))
 
   -- one that is not there
-  without-below : (n : ℕ) (xs : List Slot) → w ≤ n → Ascending n (tableOf xs) → Packed xs → tableOf (without w xs) ≡ tableOf xs
+  without-below : (n : ℕ) (xs : List Slot) → w ≤ n → Ascending n (tableOf xs) → tableOf (without w xs) ≡ tableOf xs
   unfolding without
-  without-below n [] h a p = refl
-  without-below n (x ∷ xs) h a p =
+  without-below n [] h a = refl
+  without-below n (x ∷ xs) h a =
       taken-or-free x
       (λ e. rw (ne-eqb (x .device) w (λ z. some (sym z ∙ e))) (table-free x (without w xs) e ∙ sym (table-free x xs e)))
       (λ t. let k : n < x .device = ascending-first n x xs t a in
       rw (ne-eqb (x .device) w (λ z. omega arith))
       (table-taken x (without w xs) t
-      ∙ ap (λ (l : List DeviceLimits). lineOf x ∷ l) (without-below (suc (x .device - 1)) xs (omega arith) (ascending-rest n x xs t a) (packed-rest x xs p))
+      ∙ ap (λ (l : List DeviceLimits). lineOf x ∷ l) (without-below (suc (x .device - 1)) xs (omega arith) (ascending-rest n x xs t a))
       ∙ sym (table-taken x xs t)))
 
   module _ (l : Key → Limit) (max : allMax l ≡ true) where
@@ -61,10 +61,10 @@ module _ (w : ℕ) (some : w ≢ 0) where
     unfolding without tableOf
     without-none = sym (with-none (w - 1) l ∙ entered-max (w - 1) l [] max)
 
-    pub without-with-device : (n : ℕ) (xs : List Slot) → Ascending n (tableOf xs) → Packed xs → tableOf (without w xs) ≡ withDevice (w - 1) l (tableOf xs)
+    pub without-with-device : (n : ℕ) (xs : List Slot) → Ascending n (tableOf xs) → tableOf (without w xs) ≡ withDevice (w - 1) l (tableOf xs)
     unfolding without
-    without-with-device n [] a p = without-none
-    without-with-device n (x ∷ xs) a p =
+    without-with-device n [] a = without-none
+    without-with-device n (x ∷ xs) a =
         taken-or-free x
         (λ e. rw (ne-eqb (x .device) w (λ z. some (sym z ∙ e)))
         (table-free x (without w xs) e ∙ sym (ap (withDevice (w - 1) l) (table-free x xs e) ∙ with-none (w - 1) l ∙ entered-max (w - 1) l [] max)))
@@ -73,13 +73,13 @@ module _ (w : ℕ) (some : w ≢ 0) where
         compare (x .device) w
         (λ less. rw (ne-eqb (x .device) w (λ z. omega arith))
         (table-taken x (without w xs) t
-        ∙ ap (λ (m : List DeviceLimits). lineOf x ∷ m) (without-with-device (suc (x .device - 1)) xs (ascending-rest n x xs t a) (packed-rest x xs p))
+        ∙ ap (λ (m : List DeviceLimits). lineOf x ∷ m) (without-with-device (suc (x .device - 1)) xs (ascending-rest n x xs t a))
         ∙ sym (old ∙ with-above (w - 1) l (lineOf x) (tableOf xs) (omega arith))))
         (λ same. rw (eq-eqb (x .device) w same)
         (table-front xs freeSlot refl ∙ sym (old ∙ with-same (w - 1) l (lineOf x) (tableOf xs) (omega arith) ∙ entered-max (w - 1) l (tableOf xs) max)))
         (λ more. rw (ne-eqb (x .device) w (λ z. omega arith))
         (table-taken x (without w xs) t
-        ∙ ap (λ (m : List DeviceLimits). lineOf x ∷ m) (without-below (suc (x .device - 1)) xs (omega arith) (ascending-rest n x xs t a) (packed-rest x xs p))
+        ∙ ap (λ (m : List DeviceLimits). lineOf x ∷ m) (without-below (suc (x .device - 1)) xs (omega arith) (ascending-rest n x xs t a))
         ∙ sym (old ∙ with-below (w - 1) l (lineOf x) (tableOf xs) (omega arith) ∙ entered-max (w - 1) l (lineOf x ∷ tableOf xs) max))))
 
 -- four places without a device
@@ -101,6 +101,7 @@ module _ (a b c d f : Slot) (w : ℕ) where
   unfolding without
   without-fourth e x y z h = rw (e, ne-eqb (a .device) w x, ne-eqb (b .device) w y, ne-eqb (c .device) w z, eq-eqb (d .device) w h)
 
+module _ (a b c d : Slot) (w : ℕ) where
   pub without-any : a .device ≢ w → b .device ≢ w → c .device ≢ w → d .device ≢ w → a ∷ b ∷ c ∷ d ∷ [] ≡ without w (a ∷ b ∷ c ∷ d ∷ [])
   unfolding without
   without-any x y z h = rw (ne-eqb (a .device) w x, ne-eqb (b .device) w y, ne-eqb (c .device) w z, ne-eqb (d .device) w h)

@@ -1,4 +1,4 @@
--- A limit as a word. Assumes nothing.
+-- A limit as a word of a tree: what the word says, and which limits, and which pairs of a line, have one of 64 bits. Assumes nothing.
 use Prim.Native.Nat.{ℕ, _+_, _^_, _-_, _<_}
 use lib.Dec.{eqb}
 use Rattle.model.specs.Functions.{pick}

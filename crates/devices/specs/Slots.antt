@@ -98,8 +98,8 @@ pub record SlotChanged (x : Slot) (p : Pairs) (r : Slot) : Type 0 where
   pub device : r .device ≡ x .device
   pub limits : limitsOf r ≡ changed p (limitsOf x)
 
--- What a line for a device leaves: the table after it, packed, where four places are enough; and whether they are.
+-- What a line for a device leaves: packed slots; whether four places are enough; and where they are, the table after it.
 pub record LineWritten (s : Slots) (device : ℕ) (p : Pairs) (r : Passed) : Type 0 where
   pub room : isFree (r .out) ≡ leb (length (afterLine device p (tableOf (rows s)))) mostDevices
   pub table : isFree (r .out) ≡ true → tableOf (rows (r .slots)) ≡ afterLine device p (tableOf (rows s))
-  pub packed : isFree (r .out) ≡ true → Packed (rows (r .slots))
+  pub packed : Packed (rows (r .slots))

@@ -1,4 +1,4 @@
-// A limit as a word: one more than its figure, so that 0 is none.
+// A limit as a word of a tree: one more than its figure, so that 0 is none.
 ghost use mathlib.Core.Path.{_≡_};
 ghost use Rattle.devices.specs.LimitWords.{limitIn, Storable};
 use model::Limit;

@@ -1,4 +1,4 @@
--- What an accepted make finds, and that its stores give the definitions' tree: no amount changes, and its parent counts one child
+-- What an accepted make finds, and that its stores give the definitions' tree: no amount changes, and the parent counts one child
 -- more. Assumes nothing.
 use Prim.Native.Nat.{ℕ, suc, _+_, _≤_, _<_}
 use native.Mathlib.Omega.{arith}

@@ -19,7 +19,7 @@ use text::line::next_word;
 const EQUALS: u8 = 61;
 
 // What a word names among the keys.
-pub enum KeyName {
+enum KeyName {
     Of(Key),
     Unknown,
 }

@@ -1,4 +1,4 @@
-// Limits as words: "max", or a figure of any size.
+// Limits as words of a line: "max", or a figure of any size.
 ghost use mathlib.Core.Path.{_≡_};
 ghost use Rattle.model.specs.Settings.{limitWord};
 ghost use Rattle.text.specs.Limit.{asLimitWord};

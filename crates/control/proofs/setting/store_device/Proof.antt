@@ -2,7 +2,7 @@
 use native.Mathlib.Omega.{arith}
 use borrow.Author.Tests.{eq-eqb, ne-eqb}
 use Rattle.control.proofs.ValueLaws.{settable-row}
-use Rattle.control.proofs.DeviceLaws.{numbers-low, line-ready, stored-none, slots-ready, stored-device}
+use Rattle.control.proofs.DeviceLaws.{numbers-low, line-ready, stored-none, stored-device}
 use Rattle.control.proofs.setting.store_device.Statement.{statement}
 use Rattle.control.proofs.setting.store_device.Tie as tie
 
@@ -27,14 +27,8 @@ returns c =
 
 set-slots-requires : tie.Need-set-slots-requires
 set-slots-requires c κs =
-    let e = c .before in
-    let w = e .before .before .before .before in
-    let d = w .before in
-    let l = d .before in
-    let s = l .before .before in (
-      settable-row _ _ _ (s .pre),
-      slots-ready _ _ _ _ _ (s .pre) _ _ _ (l .slots .ensures) (d .device-of .ensures) (w .after-line .ensures) (eq-eqb (w .after-line .result .out .device) 0 (omega arith)),
-    )
+    let w = c .before .before .before .before .before in
+    (settable-row _ _ _ (w .before .before .before .before .pre), w .after-line .ensures .packed)
 
 returns-2 : tie.Need-returns-2
 returns-2 c =

@@ -40,7 +40,7 @@ returns-4 c =
 returns-5 : tie.Need-returns-5
 returns-5 c =
     let a = c .before .before .before .before .before .before .before .before .args in
-    without-any (a .s .a) (a .s .b) (a .s .c) (a .s .d) (a .s .d) (a .device) (c .before .before .before .if1 .left) (c .before .before .if2 .left) (c .before .if3 .left) (c .if4 .left)
+    without-any (a .s .a) (a .s .b) (a .s .c) (a .s .d) (a .device) (c .before .before .before .if1 .left) (c .before .before .if2 .left) (c .before .if3 .left) (c .if4 .left)
 
 pub without-device-spec : {M : Type 1} → statement M
 without-device-spec =
