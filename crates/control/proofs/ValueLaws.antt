@@ -24,7 +24,6 @@ use Rattle.model.proofs.SettingLaws.{range-of-quota}
 use Rattle.tree.specs.Layout.{view}
 use Rattle.devices.specs.LimitWords.{Storable}
 use Rattle.tree.specs.Changes.{GroupRow, Wrote}
-use Rattle.lines.proofs.AmountLaws.{figure-low}
 use Rattle.control.specs.Stores.{changedAt}
 use Rattle.control.specs.Values.{Settable, Stored}
 
@@ -39,8 +38,8 @@ storable-amount r l m e h = rw e (go r l h)
   where
     go : (r : Resource) (l : Limit) → figureIn 0 (largest r) l ≡ true → Storable (mapLimit (toAmount r) l)
     go r NoLimit h = tt
-    go Pages (Figure n) h = omega (arith, figure-low Pages (Figure n) n h refl)
-    go Processes (Figure n) h = omega (arith, figure-low Processes (Figure n) n h refl)
+    go Pages (Figure n) h = omega (arith, between-le 0 (largest Pages) n h)
+    go Processes (Figure n) h = omega (arith, between-le 0 (largest Processes) n h)
 
 module _ (xs : List ℕ) (g : ℕ) (value : SettingValue) (k : Settable xs g value) where
   pub settable-row : GroupRow xs g

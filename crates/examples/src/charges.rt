@@ -68,7 +68,7 @@ fn limits_above() -> Tree
     make(&mut tree, 0, 2, 3);
     write_subtree_control(&mut tree, 0, 0, b"+memory +pids");
     write_pids_max(&mut tree, 1, 2);
-    write_memory_max(&mut tree, 1, 36865);
+    write_memory_max(&mut tree, 1, 40960);
     admit(&mut tree, 5, 0);
     write_procs(&mut tree, 0, 3, 5);
     tree

@@ -6,7 +6,7 @@ mod line_calls; // lines written to files
 mod reply_calls; // texts read into a buffer
 mod often; // calls that evenings make often
 mod charges; // P1 to P5, and the groups consulted
-mod settings; // P6 to P8
+mod settings; // P6 to P8, and order 2
 mod devices; // io.max of order 1
 mod hierarchy; // P9, P10, and depths
 mod texts; // P11, whole replies, and bad words
@@ -18,7 +18,7 @@ use say::heading;
 fn marked() {
     heading(b"P1 to P5: a charge goes up the chain");
     charges::p1_to_p5();
-    heading(b"P6 and P7: memory.max is rounded up to a whole page, and has a largest figure");
+    heading(b"P6 and P7: memory.max is rounded down to a whole page, and has a largest figure");
     settings::p6_p7();
     heading(b"P8: a weight is one figure from 1 to 10000");
     settings::p8();
@@ -46,6 +46,8 @@ fn others() {
 fn ordered() {
     heading(b"Order 1: io.max, a line for a device; a fifth device is 28");
     devices::of_a_group();
+    heading(b"Order 2: memory.max drops odd bytes, and less than a page refuses every charge");
+    settings::odd_bytes();
 }
 
 // The slips that look right, but for the common ancestor, which is P10.

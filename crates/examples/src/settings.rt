@@ -1,12 +1,15 @@
 // Evenings about settings. User 0 writes them.
 ghost use Rattle.tree.specs.Kept.{Kept};
 use super::line_calls::write_figure;
+use super::line_calls::write_procs;
 use super::line_calls::write_setting;
 use super::line_calls::write_subtree_control;
 use super::often::read_memory_max;
 use super::often::write_memory_max;
 use super::reply_calls::read;
 use super::say::case;
+use super::tree_calls::admit;
+use super::tree_calls::charge;
 use super::tree_calls::fresh_tree;
 use super::tree_calls::make;
 use tree::layout::Tree;
@@ -47,6 +50,18 @@ pub(crate) fn p6_p7() {
     show_memory_max(&mut tree, 4503599627370496);
     show_memory_max(&mut tree, 4503599627370497);
     show_no_memory_max(&mut tree);
+}
+
+pub(crate) fn odd_bytes() {
+    let mut tree = one_group();
+    admit(&mut tree, 5, 0);
+    write_procs(&mut tree, 0, 1, 5);
+    show_memory_max(&mut tree, 4095);
+    charge(&mut tree, 5, 1);
+    show_memory_max(&mut tree, 4097);
+    charge(&mut tree, 5, 1);
+    charge(&mut tree, 5, 1);
+    show_memory_max(&mut tree, 4503599627370495);
 }
 
 fn write_weight(tree: &mut Tree, figure: u64)

@@ -1,5 +1,5 @@
--- Laws of figures and amounts: a figure in its range is small, and so is the amount that it is. Assumes nothing.
-use Prim.Native.Nat.{ℕ, _^_, _≤_, _<_}
+-- A law of figures and amounts: a limit that is shown in its range is a figure that fits. Assumes nothing.
+use Prim.Native.Nat.{ℕ, _^_, _<_}
 use native.Mathlib.Omega.{arith}
 use mathlib.Core.Bool.{true}
 use mathlib.Core.Path.{_≡_}
@@ -10,10 +10,6 @@ use Rattle.model.specs.declared.Limit.{Limit}
 use Rattle.model.specs.declared.Limit.the-variants.{Figure}
 use Rattle.model.proofs.FigureLaws.{between-le}
 
-pub figure-low : (r : Resource) (l : Limit) (n : ℕ) → figureIn 0 (largest r) l ≡ true → l ≡ Figure n → n ≤ largest r
-figure-low r l n h e = between-le 0 (largest r) n (rw e at h)
-
--- a limit that is shown in its range is a figure that fits
 pub figure-in-range : (r : Resource) (l : Limit) (n : ℕ) → l ≡ Figure n
     → figureIn 0 (largest r) (mapLimit (toFigure r) l) ≡ true → toFigure r n < 10 ^ 16
 figure-in-range r l n e h = go r (rw e at h)

@@ -1,7 +1,7 @@
 // Figures of a resource's files and amounts of the resource, both ways: memory.max and memory.current are in bytes and
 // the tree counts pages; pids.max and pids.current count processes as the tree does. A device is two numbers in io.max and one in
 // the tree.
-ghost use Prim.Native.Nat.{_^_, _<_, _≤_};
+ghost use Prim.Native.Nat.{_^_, _<_};
 ghost use mathlib.Core.Bool.{true};
 ghost use mathlib.Core.Path.{_≡_};
 ghost use Rattle.model.specs.Sizes.{deviceNumbers};
@@ -13,17 +13,15 @@ use model::Resource;
 
 const PAGE_BYTES: u64 = 4096;
 
-// Bytes in whole pages, rounded up.
+// The whole pages in so many bytes: odd ones are dropped.
 fn to_pages(bytes: u64) -> u64
-    requires { ⌜ bytes ≤ largest Resource.Pages ⌝ }
     ensures { λ r. ⌜ r ≡ toPages bytes ⌝ }
 {
-    (bytes + PAGE_BYTES - 1) / PAGE_BYTES
+    bytes / PAGE_BYTES
 }
 
 // A figure of the file as an amount.
 fn to_amount(r: Resource, n: u64) -> u64
-    requires { ⌜ n ≤ largest r ⌝ }
     ensures { λ m. ⌜ m ≡ toAmount r n ⌝ }
 {
     match r {
@@ -45,7 +43,6 @@ pub fn to_figure(r: Resource, n: u64) -> u64
 
 // A limit of the file as the tree keeps it.
 pub fn stored_limit(r: Resource, l: Limit) -> Limit
-    requires { ⌜ figureIn 0 (largest r) l ≡ true ⌝ }
     ensures { λ m. ⌜ m ≡ mapLimit (toAmount r) l ⌝ }
 {
     let Limit::Figure(n) = l else {

@@ -1,6 +1,6 @@
 -- What is allowed of settings, in a group when it is made, after a reset, and after a value: ranges, and the table of io.max.
 -- Assumes nothing.
-use Prim.Native.Nat.{ℕ, _≤_, _<_}
+use Prim.Native.Nat.{ℕ, _<_}
 use native.Mathlib.Omega.{arith}
 use mathlib.Core.Bool.{Bool, true, false}
 use mathlib.Core.List.{List, [], _∷_, map}
@@ -32,7 +32,7 @@ use Rattle.model.specs.declared.SettingValue.the-variants.{Weight, Quota
 use Rattle.model.proofs.FunctionLaws.{split, and-left, and-right, all-map, all-images, all-of-images}
 use Rattle.model.proofs.FigureLaws.{between-le}
 use Rattle.model.proofs.DeviceLaws.{of-keys, every-key, all-with-device, of-limits-at, ascending-with-device}
-use Rattle.model.proofs.SettingLaws.{withLimit-all, range-of-period}
+use Rattle.model.proofs.SettingLaws.{rounded-down, withLimit-all, range-of-period}
 use Rattle.model.proofs.PieceLaws.{piece-reset, piece-kept}
 
 -- What is allowed, after a change.
@@ -77,16 +77,12 @@ allowed-after-reset gone st h =
     }
 
 -- rounding does not leave the range
-rounded-le : (r : Resource) (n : ℕ) → n ≤ largest r → toFigure r (toAmount r n) ≤ largest r
-rounded-le Pages n h = omega arith
-rounded-le Processes n h = h
-
 figureIn-rounded : (r : Resource) (l : Limit) → figureIn 0 (largest r) l ≡ true
     → figureIn 0 (largest r) (mapLimit (toFigure r) (mapLimit (toAmount r) l)) ≡ true
 figureIn-rounded r NoLimit e = refl
 figureIn-rounded r (Figure n) e =
     let m = toFigure r (toAmount r n) in
-    rw (le-leb 0 m (omega arith), le-leb m (largest r) (rounded-le r n (between-le 0 (largest r) n e)))
+    rw (le-leb 0 m (omega arith), le-leb m (largest r) (omega (arith, rounded-down r n .noMore, between-le 0 (largest r) n e)))
 
 -- a device and its limits, in range: shown, given, and after a line
 device-in-range : (d : ℕ) (l : Key → Limit) → majorOf d < deviceNumbers → ((k : Key) → rateIn (l k) ≡ true)

@@ -36,6 +36,7 @@ pub mod Marks
 pub mod Reached
 pub mod FileReads
 pub mod WriteBack
+pub mod Rounding
 pub mod Containment
 pub mod OwnsInside
 pub mod Totals

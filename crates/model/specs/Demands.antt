@@ -1,6 +1,6 @@
 -- The three demands of docs/papers/00-demands.md, as statements about the definitions; what is quoted here is from there or from
 -- document 01. `Demands` at the end is all of them, and proofs/Demands.antt shows it. Assumes nothing.
-use Prim.Native.Nat.{ℕ, suc, _≤_, max}
+use Prim.Native.Nat.{ℕ, suc, _+_, _≤_, _<_, max}
 use mathlib.Core.Bool.{true, false}
 use mathlib.Core.List.{List, [], _∷_, _++_}
 use mathlib.Core.Logic.{_≢_}
@@ -20,7 +20,7 @@ use Rattle.model.specs.Settings.{settingController, toFigure}
 use Rattle.model.specs.Rooms.{over, actingLimit, Stopped, shortage}
 use Rattle.model.specs.Rules.{mayWrite, processGroup}
 use Rattle.model.specs.Files.{contents, fits}
-use Rattle.model.specs.Calls.{Call, writeSetting, admit, fork, charge, read, checks, verdict}
+use Rattle.model.specs.Calls.{Call, lineValue, writeSetting, admit, fork, charge, read, checks, verdict}
 use Rattle.model.specs.Effects.{effect, step, fresh, run}
 use Rattle.model.specs.Replies.{reply, textReply, Asks, bufferOf}
 use Rattle.model.specs.WellFormed.{WellFormed}
@@ -37,6 +37,8 @@ use Rattle.model.specs.declared.Resource.{Resource}
 use Rattle.model.specs.declared.Resource.the-variants.{Pages, Processes}
 use Rattle.model.specs.declared.Limit.the-variants.{Figure}
 use Rattle.model.specs.declared.Setting.{Setting}
+use Rattle.model.specs.declared.Setting.the-variants.{Max}
+use Rattle.model.specs.declared.SettingValue.the-variants.{Maximum}
 use Rattle.model.specs.declared.File.the-variants.{Current, Value}
 use Rattle.model.specs.declared.Errno.{Errno}
 use Rattle.model.specs.declared.Answer.{Answer}
@@ -95,6 +97,21 @@ pub record WriteBack (t : Tree) : Type 0 where
   pub one : (g : ℕ) → All (λ s. linesOf (shownBy t g s) ≡ shownBy t g s ∷ []) baseSettings
   pub short : (g : ℕ) (s : Setting) → lives t g ≡ true → All (λ line. length line ≤ longestShown) (linesOf (shownBy t g s))
 
+-- Order 2, "Rounding is down from now on": k is the largest figure that is no more than n and stands for a whole amount, of pages in
+-- memory.max. In pids.max every figure does, and k is n.
+pub record RoundedDown (r : Resource) (n k : ℕ) : Type 0 where
+  pub amount : ℕ
+  pub whole : k ≡ toFigure r amount
+  pub noMore : k ≤ n
+  pub next : n < k + toFigure r 1
+
+-- "4097 reads back 4096, and 4095 reads back 0": so reads the figure of every accepted line of memory.max, and of pids.max
+abbrev pub Rounds : Tree → Type 0
+Rounds t =
+    (r : Resource) (user g n : ℕ) (line : List ℕ) → lineValue (settingName (Max r)) line ≡ some (Maximum r (Figure n))
+    → Accepted t (writeSetting user g (settingName (Max r)) line)
+    → (k : ℕ) × RoundedDown r n k × (shownBy (step t (writeSetting user g (settingName (Max r)) line)) g (Max r) ≡ ended (decimal k))
+
 -- h is the first group without room on the chain of g, and k its place there, counted from 1
 abbrev pub StoppedAt : Tree → Resource → ℕ → ℕ → ℕ → ℕ → Type 0
 StoppedAt t r n g h k =
@@ -133,6 +150,7 @@ pub record Demand2 : Type 0 where
   pub counted : (t : Tree) → WellFormed t → Counted t
   pub lowest : (t : Tree) → WellFormed t → Lowest t
   pub writeBack : (t : Tree) → WellFormed t → WriteBack t
+  pub rounds : (t : Tree) → Rounds t
   pub devices : DeviceRules
   pub deviceForm : (ws : List (List ℕ)) → DeviceForm ws
   pub deviceRefusal : (t : Tree) → WellFormed t → DeviceRefusal t

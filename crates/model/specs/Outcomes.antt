@@ -1,5 +1,6 @@
--- A third table of evenings, beside Worked.antt and Refusals.antt: what the accepted calls of document 01 do and what they leave
--- as it is, the ends of ranges from inside, and each file where it is and where it is not, empty and full. Assumes nothing.
+-- A third table of evenings, beside Worked.antt and Refusals.antt: what the accepted calls of document 01 and of order 2 do and
+-- what they leave as it is, the ends of ranges from inside, and each file where it is and where it is not, empty and full.
+-- Assumes nothing.
 use Prim.Native.Nat.{ℕ}
 use Prim.Native.String.{String}
 use mathlib.Core.List.{List, [], _∷_, _++_, map}
@@ -183,17 +184,37 @@ neighbours =
     ++ readsIn (1 ∷ 4 ∷ []) "memory.max" "8192\n"
     ++ readsIn (1 ∷ 4 ∷ []) "pids.max" "3\n")
 
--- The ends of the ranges pass, and a figure beyond 64 bits is 34. "rounded up to a whole page"; "leading zeros allowed". "One
--- word leaves the period", where a space follows it too, and two set it, beside "max" too.
+-- Order 2: the odd bytes of memory.max are dropped, and what is left is the limit that charges meet; below one page nothing is
+-- left. "0 to 4503599627370496" is asked of the figure as written: above it is 34, though rounded it may be the top figure. What
+-- the file shows is itself when it is written back.
+abbrev pub becomes : String → String → List Exchange
+becomes line text =
+    succeeds (setting 0 1 "memory.max" line) ∷ reads 1 "memory.max" text ∷ []
+    ++ succeeds (setting 0 1 "memory.max" text) ∷ reads 1 "memory.max" text ∷ []
+
+abbrev pub roundedDown : Evening
+roundedDown =
+    evening 8
+    (allSucceed (make 0 0 1 ∷ control 0 0 "+memory" ∷ admit 5 0 ∷ procs 0 1 "5" ∷ [])
+    ++ becomes "4503599627370496" "4503599627370496\n" ++ becomes "4503599627370495" "4503599627366400\n"
+    ++ allGet 34 (map (setting 0 1 "memory.max") ("4503599627370497" ∷ "4503599627374591" ∷ "4503599627374592" ∷ []))
+    ++ reads 1 "memory.max" "4503599627366400\n" ∷ refuses (setting 0 1 "memory.max" "18446744073709551616") 34 ∷ []
+    ++ becomes "1" "0\n" ++ stopped (charge 5 1) 12 1 1 ∷ []
+    ++ becomes "4095" "0\n" ++ stopped (charge 5 1) 12 1 1 ∷ []
+    ++ becomes "4096" "4096\n" ++ stopped (charge 5 2) 12 1 1 ∷ granted (charge 5 1) 2 ∷ stopped (charge 5 1) 12 1 1 ∷ []
+    ++ becomes "4097" "4096\n" ++ stopped (charge 5 1) 12 1 1 ∷ []
+    ++ becomes "8191" "4096\n" ++ stopped (charge 5 1) 12 1 1 ∷ []
+    ++ becomes "8192" "8192\n" ++ granted (charge 5 1) 2 ∷ stopped (charge 5 1) 12 1 1 ∷ reads 1 "memory.current" "8192\n" ∷ []
+    ++ becomes "4095" "0\n" ++ reads 1 "memory.current" "8192\n" ∷ stopped (charge 5 1) 12 1 1 ∷ [])
+
+-- The ends of the other ranges pass, and a figure beyond 64 bits is 34. "leading zeros allowed". "One word leaves the period",
+-- where a space follows it too, and two set it, beside "max" too.
 abbrev pub settingRanges : Evening
 settingRanges =
     evening 0
     (allSucceed (make 0 0 1 ∷ control 0 0 allControllers ∷ setting 0 1 "pids.max" "4194304" ∷ [])
     ++ allGet 34 (map (setting 0 1 "pids.max") ("4194305" ∷ "18446744073709551616" ∷ []))
     ++ reads 1 "pids.max" "4194304\n" ∷ succeeds (setting 0 1 "pids.max" "0") ∷ reads 1 "pids.max" "0\n" ∷ []
-    ++ succeeds (setting 0 1 "memory.max" "4503599627370496") ∷ reads 1 "memory.max" "4503599627370496\n" ∷ []
-    ++ succeeds (setting 0 1 "memory.max" "4096") ∷ reads 1 "memory.max" "4096\n" ∷ []
-    ++ succeeds (setting 0 1 "memory.max" "1") ∷ reads 1 "memory.max" "4096\n" ∷ []
     ++ allSucceed (map (setting 0 1 "cpu.max") ("1000 1000" ∷ "1000000000 1000000" ∷ "0002000 " ∷ []))
     ++ reads 1 "cpu.max" "2000 1000000\n" ∷ succeeds (setting 0 1 "cpu.max" "max") ∷ reads 1 "cpu.max" "max 1000000\n" ∷ []
     ++ succeeds (setting 0 1 "cpu.max" " max  5000") ∷ refuses (setting 0 1 "cpu.max" "3000 999") 34 ∷ []
@@ -262,5 +283,5 @@ showingBelow =
 
 unfoldable pub outcomes : List Evening
 outcomes =
-    made ∷ handedOn ∷ passedUp ∷ movers ∷ staying ∷ inRoot ∷ ends ∷ rooms ∷ resetting ∷ neighbours ∷ settingRanges
-    ∷ settingsApart ∷ wholeReplies ∷ showing ∷ showingBelow ∷ []
+    made ∷ handedOn ∷ passedUp ∷ movers ∷ staying ∷ inRoot ∷ ends ∷ rooms ∷ resetting ∷ neighbours ∷ roundedDown
+    ∷ settingRanges ∷ settingsApart ∷ wholeReplies ∷ showing ∷ showingBelow ∷ []

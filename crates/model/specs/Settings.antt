@@ -1,8 +1,8 @@
 -- The settings: their words, ranges, defaults, and what a reader sees of them. Document 01, "Write a setting" and "Settings and
--- defaults", and order 1. A value is read in three steps, as the paper's two refusals ask: its form, its range, its effect; io.max
+-- defaults", and orders 1 and 2. A value is read in three steps, as the paper's two refusals ask: its form, its range, its effect; io.max
 -- asks for room before the last.
 -- What is particular to a controller is `piece`, its own piece of the settings. Assumes nothing.
-use Prim.Native.Nat.{ℕ, _+_, _-_, _*_, _/_}
+use Prim.Native.Nat.{ℕ, _*_, _/_}
 use mathlib.Core.Bool.{Bool, true, _&&_}
 use mathlib.Core.List.{List, [], _∷_, _++_, map}
 use mathlib.Core.Option.{Option, none, some}
@@ -71,9 +71,9 @@ inRange (Device major minor p) = deviceIn major minor && pairsIn p
 inRange (Maximum r l) = figureIn 0 (largest r) l
 
 -- The effect of a value.
--- "rounded up to a whole page"
+-- "Rounding is down from now on.": whole pages, and the odd bytes dropped
 abbrev pub toPages : ℕ → ℕ
-toPages n = (n + (pageBytes - 1)) / pageBytes
+toPages n = n / pageBytes
 
 -- a figure of the file as an amount of the resource, and an amount as the file shows it
 abbrev pub toAmount : Resource → ℕ → ℕ

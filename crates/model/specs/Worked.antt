@@ -127,14 +127,14 @@ limitsAndCharges =
     ∷ refuses (release 1 7) 34
     ∷ [])
 
--- P6 and P7
+-- P6, as order 2 has it, and P7
 abbrev pub rounding : Evening
 rounding =
     evening 0
     (succeeds (make 0 0 1)
     ∷ succeeds (control 0 0 "+memory")
     ∷ succeeds (setting 0 1 "memory.max" "4097")
-    ∷ reads 1 "memory.max" "8192\n"
+    ∷ reads 1 "memory.max" "4096\n"
     ∷ succeeds (setting 0 1 "memory.max" "0")
     ∷ reads 1 "memory.max" "0\n"
     ∷ refuses (setting 0 1 "memory.max" "4503599627370497") 34

@@ -378,7 +378,7 @@ impl Plain {
             (b"memory.max", None) => {
                 let bytes = limit(first)?;
                 let bytes = within(bytes, 0, 1 << 52)?;
-                g.memory_max = bytes.map(|bytes| bytes.div_ceil(1 << PAGE_SHIFT));
+                g.memory_max = bytes.map(|bytes| bytes >> PAGE_SHIFT);
             }
             (b"pids.max", None) => g.pids_max = within(limit(first)?, 0, 4_194_304)?,
             (b"cpu.weight", None) => {

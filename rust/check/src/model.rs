@@ -1,4 +1,4 @@
-//! Document 01 as a plain program, with order 1 of document 02. Written from the papers alone, to be
+//! Document 01 as a plain program, with orders 1 and 2 of document 02. Written from the papers alone, to be
 //! read beside them: nothing is kept that can be worked out, so depths, usages and counts are found
 //! anew each time, over all groups and all processes. The words are the papers'. It is slow and knows
 //! no C.

@@ -65,7 +65,7 @@ fn p1_to_p5_charges_up_the_chain<H: Calls>() {
 fn p6_p7_rounding_and_the_top_figure<H: Calls>() {
     let mut host: H = one_group();
     for (written, shown) in [
-        ("4097", "8192\n"),
+        ("4097", "4096\n"),
         ("0", "0\n"),
         ("4503599627370496", "4503599627370496\n"),
         ("max\n", "max\n"),
@@ -162,7 +162,7 @@ fn depths<H: Calls>() {
 }
 
 ///     0 (9 pages)
-///     └ 1  pids.max 2, memory.max 36864
+///     └ 1  pids.max 2, memory.max 40960
 ///       └ 2
 ///         └ 3  process 5
 fn consulted_counts<H: Calls>() {
@@ -172,7 +172,7 @@ fn consulted_counts<H: Calls>() {
     }
     assert_eq!(host.write_subtree_control(0, ROOT, b"+memory +pids"), 0);
     assert_eq!(setting(&mut host, 1, "pids.max", "2"), 0);
-    assert_eq!(setting(&mut host, 1, "memory.max", "36865"), 0);
+    assert_eq!(setting(&mut host, 1, "memory.max", "40960"), 0);
     assert_eq!(host.admit(5, 0), 0);
     assert_eq!(host.write_procs(0, 3, b"5"), 0);
     assert_eq!(fork(&mut host, 5, 6), (0, NO_GROUP, 4));

@@ -21,8 +21,8 @@ const DIGESTS: [(&str, u64); 8] = [
     ("test_pids.txt", 0xabe5_3cdd_da2f_764c),
     ("test_memcontrol.txt", 0x4821_3e8c_ed00_ebe3),
     ("test_cpu.txt", 0x9a86_a97a_27e2_447e),
-    ("agreed.txt", 0x57b7_9604_849e_0bf2),
-    ("differences.txt", 0x4b6d_b300_0d92_68ce),
+    ("agreed.txt", 0x992e_8474_f214_52ec),
+    ("differences.txt", 0xc3b5_484b_a7b3_fbb4),
 ];
 
 #[test]

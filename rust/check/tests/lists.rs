@@ -87,9 +87,9 @@ fn a_controller_that_stays_resets_nothing() {
 }
 
 #[test]
-fn memory_max_is_rounded_up() {
+fn memory_max_is_rounded_down() {
     shows(
-        "memory.max is rounded down to a page",
+        "memory.max is rounded up to a page",
         1024,
         &[
             Make { user: 0, parent: 0, group: 1 },

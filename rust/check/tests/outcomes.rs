@@ -19,6 +19,7 @@ both! {
     rooms
     resetting
     neighbours
+    rounded_down
     setting_ranges
     settings_apart
     whole_replies
@@ -238,6 +239,45 @@ fn neighbours<H: Calls>() {
     }
 }
 
+/// memory.max of group 1 written, what it reads then, and the same when that is written back.
+#[track_caller]
+fn becomes<H: Calls>(evening: &mut Evening<H>, line: &str, text: &str) {
+    for line in [line, text] {
+        evening.succeed([setting(0, 1, "memory.max", line)]);
+        evening.reads(1, "memory.max", text);
+    }
+}
+
+fn rounded_down<H: Calls>() {
+    let mut evening = Evening::<H>::of(8);
+    evening.succeed([make(0, 0, 1), control(0, 0, "+memory"), admit(5, 0), procs(0, 1, "5")]);
+    becomes(&mut evening, "4503599627370496", "4503599627370496\n");
+    becomes(&mut evening, "4503599627370495", "4503599627366400\n");
+    let above = ["4503599627370497", "4503599627374591", "4503599627374592"];
+    evening.get(34, above.map(|line| setting(0, 1, "memory.max", line)));
+    evening.reads(1, "memory.max", "4503599627366400\n");
+    evening.get(34, [setting(0, 1, "memory.max", "18446744073709551616")]);
+    for line in ["1", "4095"] {
+        becomes(&mut evening, line, "0\n");
+        evening.stopped(charge(5, 1), 12, 1, 1);
+    }
+    becomes(&mut evening, "4096", "4096\n");
+    evening.stopped(charge(5, 2), 12, 1, 1);
+    evening.granted(charge(5, 1), 2);
+    evening.stopped(charge(5, 1), 12, 1, 1);
+    for line in ["4097", "8191"] {
+        becomes(&mut evening, line, "4096\n");
+        evening.stopped(charge(5, 1), 12, 1, 1);
+    }
+    becomes(&mut evening, "8192", "8192\n");
+    evening.granted(charge(5, 1), 2);
+    evening.stopped(charge(5, 1), 12, 1, 1);
+    evening.reads(1, "memory.current", "8192\n");
+    becomes(&mut evening, "4095", "0\n");
+    evening.reads(1, "memory.current", "8192\n");
+    evening.stopped(charge(5, 1), 12, 1, 1);
+}
+
 fn setting_ranges<H: Calls>() {
     let mut evening = Evening::<H>::of(0);
     evening.succeed([make(0, 0, 1), control(0, 0, ALL), setting(0, 1, "pids.max", "4194304")]);
@@ -246,9 +286,6 @@ fn setting_ranges<H: Calls>() {
     evening.reads(1, "pids.max", "4194304\n");
     for (file, line, text) in [
         ("pids.max", "0", "0\n"),
-        ("memory.max", "4503599627370496", "4503599627370496\n"),
-        ("memory.max", "4096", "4096\n"),
-        ("memory.max", "1", "4096\n"),
         ("cpu.max", "1000 1000", "1000 1000\n"),
         ("cpu.max", "1000000000 1000000", "1000000000 1000000\n"),
         ("cpu.max", "0002000 ", "2000 1000000\n"),

@@ -1,4 +1,4 @@
-//! The calls. Each answers as document 01 and order 1 of document 02 say, refusals in the order of
+//! The calls. Each answers as document 01 and orders 1 and 2 of document 02 say, refusals in the order of
 //! its checks; a refused call changes nothing.
 
 use std::fmt;
@@ -172,6 +172,20 @@ impl Host {
     /// host.write_subtree_control(User::ROOT, GroupId::ROOT, "+cpu")?;
     /// host.write_setting(User::ROOT, GroupId(1), file::CPU_MAX, "50000")?;
     /// assert_eq!(host.read(GroupId(1), file::CPU_MAX)?, b"50000 100000\n");
+    /// # Ok::<(), Refusal>(())
+    /// ```
+    ///
+    /// memory.max is rounded down to whole pages, so that less than one refuses every charge:
+    ///
+    /// ```
+    /// # use shootspiral::{GroupId, Host, Refusal, User, file};
+    /// let mut host = Host::fresh(1024);
+    /// host.make(User::ROOT, GroupId::ROOT, GroupId(1))?;
+    /// host.write_subtree_control(User::ROOT, GroupId::ROOT, "+memory")?;
+    /// host.write_setting(User::ROOT, GroupId(1), file::MEMORY_MAX, "4097")?;
+    /// assert_eq!(host.read(GroupId(1), file::MEMORY_MAX)?, b"4096\n");
+    /// host.write_setting(User::ROOT, GroupId(1), file::MEMORY_MAX, "4095")?;
+    /// assert_eq!(host.read(GroupId(1), file::MEMORY_MAX)?, b"0\n");
     /// # Ok::<(), Refusal>(())
     /// ```
     ///

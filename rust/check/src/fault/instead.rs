@@ -48,6 +48,17 @@ pub(super) fn numbers_wrap(_: &Model, call: &mut Call) {
     });
 }
 
+/// Above the top figure of memory.max by less than a page: rounded first, it is the top figure.
+pub(super) fn range_of_rounded(_: &Model, call: &mut Call) {
+    const TOP: u128 = 1 << 52;
+    if matches!(call, Call::WriteSetting { file, .. } if file == b"memory.max") {
+        change_numbers(call, |word| match number(word) {
+            Some(TOP..4_503_599_627_374_592) => TOP.to_string().into_bytes(),
+            _ => word.to_vec(),
+        });
+    }
+}
+
 /// Takes a byte for a digit of this value, where it stands among digits or alone.
 fn take_for_digit(call: &mut Call, odd: u8, value: u128) {
     change_numbers(call, |word| {

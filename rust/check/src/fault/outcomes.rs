@@ -116,11 +116,19 @@ pub(super) fn setting<'a>(done: &Outcome<'a>) -> Option<(u64, &'a [u8], &'a [u8]
     }
 }
 
-pub(super) fn rounded_down(done: &mut Outcome) {
+/// memory.max rounded otherwise than down.
+fn rounded(done: &mut Outcome, pages: impl Fn(u64) -> u64) {
     if let Some((group, b"memory.max", line)) = setting(done) {
-        let pages = figure(line).map(|bytes| bytes / 4096);
-        done.after.group_mut(group).settings.memory_max = pages;
+        done.after.group_mut(group).settings.memory_max = figure(line).map(pages);
     }
+}
+
+pub(super) fn rounded_up(done: &mut Outcome) {
+    rounded(done, |bytes| bytes.div_ceil(4096));
+}
+
+pub(super) fn never_rounded_to_0(done: &mut Outcome) {
+    rounded(done, |bytes| (bytes / 4096).max(bytes.min(1)));
 }
 
 pub(super) fn limit_below_usage_refused(done: &mut Outcome) {

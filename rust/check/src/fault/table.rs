@@ -18,7 +18,12 @@ pub(super) const FAULTS: &[Fault] = &[
         Outcome(outcomes::ancestor_not_asked),
     ),
     fault("a controller that leaves does not reset its settings", Outcome(outcomes::settings_kept)),
-    fault("memory.max is rounded down to a page", Outcome(outcomes::rounded_down)),
+    fault("memory.max is rounded up to a page", Outcome(outcomes::rounded_up)),
+    fault("less than a page in memory.max is one page", Outcome(outcomes::never_rounded_to_0)),
+    fault(
+        "the range of memory.max is asked of the rounded figure",
+        Instead(instead::range_of_rounded),
+    ),
     fault(
         "the group that refuses is not counted as consulted",
         Outcome(outcomes::consulted_one_short),

@@ -246,7 +246,7 @@ impl Settings {
     fn write_figure(&mut self, file: &[u8], said: Said) {
         let figure = said.figure.map(|figure| figure as u64);
         match file {
-            b"memory.max" => self.memory_max = figure.map(|bytes| bytes.div_ceil(PAGE)),
+            b"memory.max" => self.memory_max = figure.map(|bytes| bytes / PAGE),
             b"pids.max" => self.pids_max = figure,
             b"cpu.weight" => self.cpu_weight = figure.expect("checked"),
             _ => {

@@ -65,7 +65,7 @@ enum-known-value-5 : tie.Need-enum-known-value-5
 enum-known-value-5 c = search needs
 
 stored-limit-requires : tie.Need-stored-limit-requires
-stored-limit-requires c κs = let v = c .before .before in figure-in _ _ _ (v .before .before .pre) _ _ (v .value5 .given .1)
+stored-limit-requires c κs = search needs
 
 set-limit-requires : tie.Need-set-limit-requires
 set-limit-requires c κs =

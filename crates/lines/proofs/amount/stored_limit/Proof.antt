@@ -3,7 +3,6 @@ use mathlib.Core.Path.{ap, sym, _∙_}
 use borrow.Author.Needs.{needs}
 use Rattle.model.specs.declared.Limit.the-variants.{Figure}
 use Rattle.model.specs.Settings.{toAmount, mapLimit}
-use Rattle.lines.proofs.AmountLaws.{figure-low}
 use Rattle.lines.proofs.amount.stored_limit.Statement.{statement}
 use Rattle.lines.proofs.amount.stored_limit.Tie as tie
 
@@ -17,9 +16,7 @@ returns : tie.Need-returns
 returns c = search needs
 
 to-amount-requires : tie.Need-to-amount-requires
-to-amount-requires c κs =
-    let s = c .before .before .before in
-    figure-low (s .args .r) (s .args .l) _ (s .pre) (c .before .l .given .1)
+to-amount-requires c κs = search needs
 
 returns-2 : tie.Need-returns-2
 returns-2 c =

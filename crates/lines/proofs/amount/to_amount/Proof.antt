@@ -1,8 +1,7 @@
 -- `lines::amount::to_amount` meets its contract: by the resource. Assumes nothing.
-use native.Mathlib.Omega.{arith}
 use mathlib.Core.Path.{ap, sym, _∙_}
 use borrow.Author.Needs.{needs}
-use Rattle.model.specs.Settings.{largest, toAmount}
+use Rattle.model.specs.Settings.{toAmount}
 use Rattle.lines.proofs.amount.to_amount.Statement.{statement}
 use Rattle.lines.proofs.amount.to_amount.Tie as tie
 
@@ -10,7 +9,7 @@ enum-told : tie.Need-enum-told
 enum-told c = search needs
 
 to-pages-requires : tie.Need-to-pages-requires
-to-pages-requires c κs = let s = c .before .before in omega (arith, s .pre, ap largest (c .enum-told .given .1))
+to-pages-requires c κs = search needs
 
 enum-told-2 : tie.Need-enum-told-2
 enum-told-2 c = search needs

@@ -91,6 +91,7 @@ fn setting_lines(file: &[u8]) -> Vec<String> {
     if file == b"memory.max" {
         let bytes = ["4095", "4096", "4097", "8191", "68719476735", "68719476737"];
         lines.extend(bytes.map(String::from));
+        lines.push((high + 4095).to_string());
     }
     if file == b"pids.max" {
         lines.extend(["255", "256", "257", "65536"].map(String::from));

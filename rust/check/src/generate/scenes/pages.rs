@@ -44,7 +44,7 @@ impl Generator {
                 _ => sketch.usage(up),
             };
             let odd = self.random.pick(&[0, 0, 1, 4095]);
-            self.set(sketch, up, "memory.max", (limit << 12).saturating_sub(odd));
+            self.set(sketch, up, "memory.max", (limit << 12) + odd);
             for pages in [MOST, 1] {
                 self.plan(sketch, Call::Charge { process, pages });
             }
