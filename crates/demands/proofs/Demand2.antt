@@ -24,11 +24,10 @@ use Rattle.model.specs.Calls.{Call, read, fileText, checks, verdict}
 use Rattle.model.specs.Replies.{Asks, reply}
 use Rattle.model.specs.Book.{Entry}
 use Rattle.model.specs.Containment.{caller, OwnsInside, NoneAcross, GivesOutside}
-use Rattle.model.specs.Demands.{StoppedAt}
+use Rattle.model.specs.Demands.{StoppedAt, LimitKept}
 use Rattle.model.specs.Demands as D
 use Rattle.model.specs.declared.Resource.{Resource}
 use Rattle.model.specs.declared.Setting.{Setting}
-use Rattle.model.specs.declared.Setting.the-variants.{Max}
 use Rattle.model.specs.declared.File.the-variants.{Value}
 use Rattle.model.proofs.FunctionLaws.{all-map}
 use Rattle.model.proofs.ChainLaws.{inside-live}
@@ -87,8 +86,8 @@ module _ {xs ys : List ℕ} {c : Call} {k : ℕ} {told : List ℕ} (r : Resource
         apart = λ h l e. omega (arith, kept .formed .sound .range h l);
       }
 
--- A settings file that was read.
-module _ {xs : List ℕ} {n k : ℕ} {buffer bytes : List ℕ} (g : ℕ) (s : Setting)
+-- Writing back.
+module _ {xs : List ℕ} {n k : ℕ} {buffer bytes : List ℕ} (g : ℕ) (s : Setting) (kept : Kept xs)
     (a : Answered xs xs (read g (settingName s) buffer) n) (z : n ≡ 0)
     (told : Told (reply (view xs) (read g (settingName s) buffer)) (k ∷ []) bytes) where
   abbrev t : Tree
@@ -127,8 +126,8 @@ module _ {xs : List ℕ} {n k : ℕ} {buffer bytes : List ℕ} (g : ℕ) (s : Se
   restores : (user : ℕ) (line : List ℕ) → D.WrittenBack t user g s line → Restores xs user g s line
   restores user line d ys m w = (answered-number w ∙ ap answerNumber (d .accepted), w .tree ∙ d .same)
 
-  shown-back : Kept xs → (user : ℕ) → mayWrite t user (parents t g) ≡ true → ShownBack xs user g s (take k bytes)
-  shown-back kept user may =
+  shown-back : (user : ℕ) → mayWrite t user (parents t g) ≡ true → ShownBack xs user g s (take k bytes)
+  shown-back user may =
       let back = demands .second .writeBack t (kept .formed) in
       rw delivered-text
       (record {
@@ -163,19 +162,16 @@ demand-2-of-the-code =
       fifth = λ {xs} user g file line k a.
           let d = demands .second .deviceRefusal (view xs) (k .formed) in
           ((λ e. d .only user g file line (sym (a .answer) ∙ e)), (λ h. a .answer ∙ d .always user g file line h));
+      rounds = λ {xs} r user g figure line e a z.
+          subst (λ (t : Tree). LimitKept t r g figure) (sym (a .tree))
+          (demands .second .rounds (view xs) r user g figure line e (sym (a .answer) ∙ z));
       question = λ {line} e. (firstBadWord line, e, demands .second .question line .answer);
       part = λ {r} {s} p.
           let f = demands .second .question (now s) .answer in
           (firstBadWord (now s), record { first = f; block = p .block; offset = p .offset; word = p .bytes ∙ f .own });
       shown = delivered-file;
       standing = delivered-line;
-      back = λ user g s k a z told may. shown-back g s a z told k user may;
-      rounds = λ {xs} r user g figure line e w y a z told.
-          let d = demands .second .rounds (view xs) r user g figure line e (sym (w .answer) ∙ y) in (
-            d .0,
-            d .1,
-            delivered-text g (Max r) a z told ∙ ap (λ (t : Tree). D.shownBy t g (Max r)) (w .tree) ∙ d .2,
-          );
+      back = λ user g s k a z told may. shown-back g s k a z told user may;
       contained = contained-run;
       fresh = λ {m} {xs} z user d nz.
           subst (λ (t : Tree). OwnsInside t user d) (sym (z .tree)) (demands .fresh m .owns user d nz);

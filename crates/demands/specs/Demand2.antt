@@ -1,5 +1,5 @@
--- Demand 2 of the code, from the contracts alone: exactly when; what charge and fork tell; when a device is a fifth; the question about a control line; texts
--- delivered and written back; figures that read back rounded down; containment. Assumes nothing.
+-- Demand 2 of the code, from the contracts alone: exactly when; what charge and fork tell; when a device is a fifth; what a figure
+-- leaves; the question about a control line; texts delivered and written back; containment. Assumes nothing.
 use Prim.Native.Nat.{ℕ, suc, _+_, _≤_}
 use mathlib.Core.Bool.{true}
 use mathlib.Core.List.{List, [], _∷_}
@@ -13,25 +13,25 @@ use Rattle.model.specs.Sizes.{longestShown}
 use Rattle.model.specs.Checks.{errnoNumber, answerNumber, Says}
 use Rattle.model.specs.Tree.{Tree, lives, parents, depths}
 use Rattle.model.specs.Hierarchy.{factsOf}
-use Rattle.model.specs.Text.{linesOf, body, ended, decimal}
+use Rattle.model.specs.Text.{linesOf, lineWords, oneWord, body}
 use Rattle.model.specs.Names.{settingName}
 use Rattle.model.specs.Control.{Part, firstBadWord}
+use Rattle.model.specs.Figures.{limitWord}
 use Rattle.model.specs.Words.{cut, FirstBad}
 use Rattle.model.specs.Rooms.{shortage}
 use Rattle.model.specs.Rules.{mayWrite, processGroup}
 use Rattle.model.specs.Files.{membershipLine}
-use Rattle.model.specs.Calls.{Call, lineValue, writeSetting, read, membership, fileText, checks}
+use Rattle.model.specs.Calls.{Call, writeSetting, read, membership, fileText, checks}
 use Rattle.model.specs.Effects.{effect}
 use Rattle.model.specs.Replies.{Asks, reply}
 use Rattle.model.specs.Book.{Entry}
 use Rattle.model.specs.Containment.{caller, OwnsInside, NoneAcross, GivesOutside}
 use Rattle.model.specs.DeviceReplies.{FifthWrite}
-use Rattle.model.specs.Demands.{StoppedAt, RoundedDown}
+use Rattle.model.specs.Demands.{StoppedAt, LimitKept}
 use Rattle.model.specs.declared.Resource.{Resource}
-use Rattle.model.specs.declared.Setting.{Setting}
 use Rattle.model.specs.declared.Limit.the-variants.{Figure}
+use Rattle.model.specs.declared.Setting.{Setting}
 use Rattle.model.specs.declared.Setting.the-variants.{IoMax, Max}
-use Rattle.model.specs.declared.SettingValue.the-variants.{Maximum}
 use Rattle.model.specs.declared.Answer.{Answer}
 use Rattle.tree.specs.Layout.{view}
 use Rattle.tree.specs.Kept.{Kept, Fresh}
@@ -82,6 +82,10 @@ pub record Demand2 : Type 0 where
   -- order 1: a write of a setting is answered 28 exactly where its device is a fifth
   pub fifth : {xs ys : List ℕ} {n : ℕ} (user g : ℕ) (file line : List ℕ) → Kept xs → Answered xs ys (writeSetting user g file line) n
       → (n ≡ 28 → FifthWrite (view xs) user g file line) × (FifthWrite (view xs) user g file line → n ≡ 28)
+  -- order 2: what the figure of an accepted line of memory.max or pids.max leaves
+  pub rounds : {xs ys : List ℕ} {n : ℕ} (r : Resource) (user g figure : ℕ) (line : List ℕ)
+      → oneWord limitWord (lineWords line) ≡ some (Figure figure)
+      → Answered xs ys (writeSetting user g (settingName (Max r)) line) n → n ≡ 0 → LimitKept (view ys) r g figure
   -- told as two words, and as a part of the lent line
   pub question : {line told : List ℕ} → told ≡ partWords (firstBadWord line)
       → (p : Part) × (told ≡ p .start ∷ p .size ∷ []) × FirstBad line p
@@ -98,13 +102,6 @@ pub record Demand2 : Type 0 where
       → Told (reply (view xs) (read g (settingName s) buffer)) (k ∷ []) bytes
       → mayWrite (view xs) user (parents (view xs) g) ≡ true
       → ShownBack xs user g s (take k bytes)
-  -- order 2: an accepted figure of memory.max or pids.max, read on the words after it, is rounded down
-  pub rounds : {xs ys : List ℕ} {m n k : ℕ} {buffer bytes : List ℕ} (r : Resource) (user g figure : ℕ) (line : List ℕ)
-      → lineValue (settingName (Max r)) line ≡ some (Maximum r (Figure figure))
-      → Answered xs ys (writeSetting user g (settingName (Max r)) line) m → m ≡ 0
-      → Answered ys ys (read g (settingName (Max r)) buffer) n → n ≡ 0
-      → Told (reply (view ys) (read g (settingName (Max r)) buffer)) (k ∷ []) bytes
-      → (shown : ℕ) × RoundedDown r figure shown × (take k bytes ≡ ended (decimal shown))
   -- "A user other than 0, all of whose groups lie inside one handed-over part, never moves a process across that part's edge": over
   -- every run in which nobody hands over to him a group outside it
   pub contained : {xs ys : List ℕ} {es : List Entry} (user d : ℕ) → user ≢ 0 → (r : Runs xs es ys)

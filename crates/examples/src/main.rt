@@ -18,7 +18,7 @@ use say::heading;
 fn marked() {
     heading(b"P1 to P5: a charge goes up the chain");
     charges::p1_to_p5();
-    heading(b"P6 and P7: memory.max is rounded down to a whole page, and has a largest figure");
+    heading(b"P6 and P7: memory.max is rounded down to whole pages, and has a largest figure");
     settings::p6_p7();
     heading(b"P8: a weight is one figure from 1 to 10000");
     settings::p8();

@@ -1,4 +1,4 @@
--- Laws of the settings: ranges; values shown and assigned again; which setting a value is for. What a reset and a value do to a controller's
+-- Laws of the settings: ranges; rounding; values shown and assigned again; which setting a value is for. What a reset and a value do to a controller's
 -- piece is in PieceLaws, to what is allowed in AllowedLaws; how values read as text is in SettingTextLaws. Assumes nothing.
 use Prim.Native.Nat.{ℕ}
 use native.Mathlib.Omega.{arith}
@@ -12,8 +12,7 @@ use Rattle.model.specs.Tree.{Settings, withIo, withAmounts, withLimit}
 use Rattle.model.specs.Text.{oneWord, numberWord}
 use Rattle.model.specs.Figures.{limitWord}
 use Rattle.model.specs.DeviceLines.{colon, before, after, noPairs, pairsFrom, deviceValue, deviceWords}
-use Rattle.model.specs.Settings.{bandwidthOf, bandwidthWords, valueOf, between, quotaIn, inRange, toAmount, toFigure, mapLimit, assign, shownDevice, shown}
-use Rattle.model.specs.Demands.{RoundedDown}
+use Rattle.model.specs.Settings.{bandwidthOf, bandwidthWords, valueOf, between, quotaIn, inRange, toAmount, toFigure, RoundedDown, mapLimit, assign, shownDevice, shown}
 use Rattle.model.specs.declared.Resource.{Resource}
 use Rattle.model.specs.declared.Resource.the-variants.{Pages, Processes}
 use Rattle.model.specs.declared.Limit.{Limit}
@@ -37,11 +36,12 @@ module _ (q : Limit) (p : ℕ) (e : inRange (Bandwidth q p) ≡ true) where
   unfolding inRange
   range-of-period = and-right (quotaIn q) (between 1000 1000000 p) e
 
--- Shown and assigned again.
-pub rounded-down : (r : Resource) (n : ℕ) → RoundedDown r n (toFigure r (toAmount r n))
-rounded-down Pages n = record { amount = toAmount Pages n; whole = refl; noMore = omega arith; next = omega arith }
-rounded-down Processes n = record { amount = n; whole = refl; noMore = omega arith; next = omega arith }
+-- Rounding.
+pub rounded-down : (r : Resource) (n : ℕ) → RoundedDown r n (toAmount r n)
+rounded-down Pages n = record { noMore = omega arith; next = omega arith }
+rounded-down Processes n = record { noMore = omega arith; next = omega arith }
 
+-- Shown and assigned again.
 -- what a file shows of an amount is rounded to that amount
 pub toAmount-toFigure : (r : Resource) (n : ℕ) → toAmount r (toFigure r n) ≡ n
 toAmount-toFigure Pages n = omega arith

@@ -1,6 +1,6 @@
--- The three demands of docs/papers/00-demands.md, as statements about the definitions; what is quoted here is from there or from
--- document 01. `Demands` at the end is all of them, and proofs/Demands.antt shows it. Assumes nothing.
-use Prim.Native.Nat.{ℕ, suc, _+_, _≤_, _<_, max}
+-- The three demands of docs/papers/00-demands.md, as statements about the definitions; what is quoted here is from there, from
+-- document 01, or from the order that is named beside it. `Demands` at the end is all of them, and proofs/Demands.antt shows it. Assumes nothing.
+use Prim.Native.Nat.{ℕ, suc, _≤_, max}
 use mathlib.Core.Bool.{true, false}
 use mathlib.Core.List.{List, [], _∷_, _++_}
 use mathlib.Core.Logic.{_≢_}
@@ -12,15 +12,16 @@ use Rattle.model.specs.Sizes.{longestShown}
 use Rattle.model.specs.Checks.{errnoNumber, Says}
 use Rattle.model.specs.Tree.{Tree, depths, groupOf, controllerOf, cores, lives, parents, places}
 use Rattle.model.specs.Hierarchy.{chain, commonAncestor, on, inside, amount, factsOf}
-use Rattle.model.specs.Text.{ended, joined, body, linesOf, decimal}
+use Rattle.model.specs.Text.{ended, joined, body, linesOf, lineWords, oneWord, decimal}
 use Rattle.model.specs.Names.{baseSettings, settingName, fileName}
 use Rattle.model.specs.Control.{hasBadWord, Part, firstBadWord}
 use Rattle.model.specs.Words.{Dropped, FirstBad, HasBad}
-use Rattle.model.specs.Settings.{settingController, toFigure}
+use Rattle.model.specs.Figures.{limitWord}
+use Rattle.model.specs.Settings.{settingController, toFigure, RoundedDown}
 use Rattle.model.specs.Rooms.{over, actingLimit, Stopped, shortage}
 use Rattle.model.specs.Rules.{mayWrite, processGroup}
 use Rattle.model.specs.Files.{contents, fits}
-use Rattle.model.specs.Calls.{Call, lineValue, writeSetting, admit, fork, charge, read, checks, verdict}
+use Rattle.model.specs.Calls.{Call, writeSetting, admit, fork, charge, read, checks, verdict}
 use Rattle.model.specs.Effects.{effect, step, fresh, run}
 use Rattle.model.specs.Replies.{reply, textReply, Asks, bufferOf}
 use Rattle.model.specs.WellFormed.{WellFormed}
@@ -38,7 +39,6 @@ use Rattle.model.specs.declared.Resource.the-variants.{Pages, Processes}
 use Rattle.model.specs.declared.Limit.the-variants.{Figure}
 use Rattle.model.specs.declared.Setting.{Setting}
 use Rattle.model.specs.declared.Setting.the-variants.{Max}
-use Rattle.model.specs.declared.SettingValue.the-variants.{Maximum}
 use Rattle.model.specs.declared.File.the-variants.{Current, Value}
 use Rattle.model.specs.declared.Errno.{Errno}
 use Rattle.model.specs.declared.Answer.{Answer}
@@ -97,20 +97,20 @@ pub record WriteBack (t : Tree) : Type 0 where
   pub one : (g : ℕ) → All (λ s. linesOf (shownBy t g s) ≡ shownBy t g s ∷ []) baseSettings
   pub short : (g : ℕ) (s : Setting) → lives t g ≡ true → All (λ line. length line ≤ longestShown) (linesOf (shownBy t g s))
 
--- Order 2, "Rounding is down from now on": k is the largest figure that is no more than n and stands for a whole amount, of pages in
--- memory.max. In pids.max every figure does, and k is n.
-pub record RoundedDown (r : Resource) (n k : ℕ) : Type 0 where
+-- Order 2, "4097 reads back 4096, and 4095 reads back 0": what is kept as a limit where the figure n was written, and what its file
+-- shows. In pids.max both are n.
+pub record LimitKept (t : Tree) (r : Resource) (g n : ℕ) : Type 0 where
   pub amount : ℕ
-  pub whole : k ≡ toFigure r amount
-  pub noMore : k ≤ n
-  pub next : n < k + toFigure r 1
+  pub rounded : RoundedDown r n amount
+  pub limit : t .group g .core .limit r ≡ Figure amount
+  pub shown : shownBy t g (Max r) ≡ ended (decimal (toFigure r amount))
 
--- "4097 reads back 4096, and 4095 reads back 0": so reads the figure of every accepted line of memory.max, and of pids.max
+-- after every accepted line of memory.max or pids.max that is a figure
 abbrev pub Rounds : Tree → Type 0
 Rounds t =
-    (r : Resource) (user g n : ℕ) (line : List ℕ) → lineValue (settingName (Max r)) line ≡ some (Maximum r (Figure n))
+    (r : Resource) (user g n : ℕ) (line : List ℕ) → oneWord limitWord (lineWords line) ≡ some (Figure n)
     → Accepted t (writeSetting user g (settingName (Max r)) line)
-    → (k : ℕ) × RoundedDown r n k × (shownBy (step t (writeSetting user g (settingName (Max r)) line)) g (Max r) ≡ ended (decimal k))
+    → LimitKept (step t (writeSetting user g (settingName (Max r)) line)) r g n
 
 -- h is the first group without room on the chain of g, and k its place there, counted from 1
 abbrev pub StoppedAt : Tree → Resource → ℕ → ℕ → ℕ → ℕ → Type 0

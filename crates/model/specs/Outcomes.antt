@@ -34,6 +34,12 @@ setIn gs file line = allSucceed (map (λ g. setting 0 g file line) gs)
 abbrev pub readsIn : List ℕ → String → String → List Exchange
 readsIn gs file text = map (λ g. reads g file text) gs
 
+-- a line of memory.max, what it reads then, and the same when that is written back
+abbrev pub becomes : String → String → List Exchange
+becomes line text =
+    succeeds (setting 0 1 "memory.max" line) ∷ reads 1 "memory.max" text ∷ []
+    ++ succeeds (setting 0 1 "memory.max" text) ∷ reads 1 "memory.max" text ∷ []
+
 -- Make: "Owner is the user; set empty; defaults; no pages", under a parent that has a set, settings and pages too, and where a
 -- group had the number before that had them. A group with a process may get a child and be handed over, and the process stays.
 -- A group with a set and pages may be removed.
@@ -185,13 +191,7 @@ neighbours =
     ++ readsIn (1 ∷ 4 ∷ []) "pids.max" "3\n")
 
 -- Order 2: the odd bytes of memory.max are dropped, and what is left is the limit that charges meet; below one page nothing is
--- left. "0 to 4503599627370496" is asked of the figure as written: above it is 34, though rounded it may be the top figure. What
--- the file shows is itself when it is written back.
-abbrev pub becomes : String → String → List Exchange
-becomes line text =
-    succeeds (setting 0 1 "memory.max" line) ∷ reads 1 "memory.max" text ∷ []
-    ++ succeeds (setting 0 1 "memory.max" text) ∷ reads 1 "memory.max" text ∷ []
-
+-- left. "0 to 4503599627370496" is asked of the figure as written: above it is 34, though rounded it may be the top figure.
 abbrev pub roundedDown : Evening
 roundedDown =
     evening 8

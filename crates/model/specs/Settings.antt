@@ -1,8 +1,8 @@
 -- The settings: their words, ranges, defaults, and what a reader sees of them. Document 01, "Write a setting" and "Settings and
--- defaults", and orders 1 and 2. A value is read in three steps, as the paper's two refusals ask: its form, its range, its effect; io.max
--- asks for room before the last.
+-- defaults", and orders 1 and 2. A value is read in three steps, as the paper's two refusals ask: its form, its range, its effect;
+-- io.max asks for room before the last.
 -- What is particular to a controller is `piece`, its own piece of the settings. Assumes nothing.
-use Prim.Native.Nat.{ℕ, _*_, _/_}
+use Prim.Native.Nat.{ℕ, suc, _*_, _/_, _≤_, _<_}
 use mathlib.Core.Bool.{Bool, true, _&&_}
 use mathlib.Core.List.{List, [], _∷_, _++_, map}
 use mathlib.Core.Option.{Option, none, some}
@@ -71,7 +71,7 @@ inRange (Device major minor p) = deviceIn major minor && pairsIn p
 inRange (Maximum r l) = figureIn 0 (largest r) l
 
 -- The effect of a value.
--- "Rounding is down from now on.": whole pages, and the odd bytes dropped
+-- order 2, "Rounding is down from now on": the whole pages, odd bytes dropped
 abbrev pub toPages : ℕ → ℕ
 toPages n = n / pageBytes
 
@@ -83,6 +83,11 @@ toAmount Processes n = n
 abbrev pub toFigure : Resource → ℕ → ℕ
 toFigure Pages n = n * pageBytes
 toFigure Processes n = n
+
+-- the order as a statement: a is the largest amount whose figure is no more than n
+pub record RoundedDown (r : Resource) (n a : ℕ) : Type 0 where
+  pub noMore : toFigure r a ≤ n
+  pub next : n < toFigure r (suc a)
 
 abbrev pub mapLimit : (ℕ → ℕ) → Limit → Limit
 mapLimit f NoLimit = NoLimit

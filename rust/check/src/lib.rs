@@ -1,7 +1,7 @@
-//! Compares Shootspiral with a plain model of document 01: the same calls to both, and after every
+//! Compares Shootspiral with a plain model of the papers: the same calls to both, and after every
 //! call the same answer, the same reply buffer and the same readable tree.
 //!
-//! - [`model`]: the paper as a plain program, every figure worked out by its definition
+//! - [`model`]: the papers as a plain program, every figure worked out by its definition
 //! - [`checks`]: the table of all checks, by which the model names its refusals
 //! - [`linked`]: the proved host, behind the C interface
 //! - [`calls`], [`call`]: what both answer, as a trait and as a value

@@ -1,7 +1,7 @@
-//! Document 01 as a plain program, with orders 1 and 2 of document 02. Written from the papers alone, to be
-//! read beside them: nothing is kept that can be worked out, so depths, usages and counts are found
-//! anew each time, over all groups and all processes. The words are the papers'. It is slow and knows
-//! no C.
+//! Document 01 as a plain program, with the orders of document 02 that have landed. Written from the
+//! papers alone, to be read beside them: nothing is kept that can be worked out, so depths, usages and
+//! counts are found anew each time, over all groups and all processes. The words are the papers'. It
+//! is slow and knows no C.
 //!
 //! Each call has its checks as a list, in the paper's order, and what it does when none of them
 //! holds. A check can be asked even where an earlier one holds: of a group or a process that is not

@@ -1,5 +1,6 @@
 //! The evenings worked through in document 01, one test each, asked of the model and of the proved
-//! host. The answers are the paper's, written out: they hold the model itself to the paper.
+//! host. The answers are the paper's, written out: they hold the model itself to the paper. P6 is as
+//! order 2 of document 02 has it.
 
 #[macro_use]
 mod common;

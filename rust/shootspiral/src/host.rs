@@ -1,5 +1,5 @@
-//! The calls. Each answers as document 01 and orders 1 and 2 of document 02 say, refusals in the order of
-//! its checks; a refused call changes nothing.
+//! The calls. Each answers as document 01 says, with the orders of document 02 that have landed,
+//! refusals in the order of its checks; a refused call changes nothing.
 
 use std::fmt;
 
@@ -175,7 +175,7 @@ impl Host {
     /// # Ok::<(), Refusal>(())
     /// ```
     ///
-    /// memory.max is rounded down to whole pages, so that less than one refuses every charge:
+    /// memory.max is rounded down to whole pages, so that a limit below one page refuses every charge:
     ///
     /// ```
     /// # use shootspiral::{GroupId, Host, Refusal, User, file};

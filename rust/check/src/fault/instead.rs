@@ -51,9 +51,10 @@ pub(super) fn numbers_wrap(_: &Model, call: &mut Call) {
 /// Above the top figure of memory.max by less than a page: rounded first, it is the top figure.
 pub(super) fn range_of_rounded(_: &Model, call: &mut Call) {
     const TOP: u128 = 1 << 52;
+    const END: u128 = TOP + 4096;
     if matches!(call, Call::WriteSetting { file, .. } if file == b"memory.max") {
         change_numbers(call, |word| match number(word) {
-            Some(TOP..4_503_599_627_374_592) => TOP.to_string().into_bytes(),
+            Some(TOP..END) => format!("{TOP:0>0$}", word.len()).into_bytes(),
             _ => word.to_vec(),
         });
     }
