@@ -113,9 +113,9 @@ module _ {m : ℕ} {xs : List ℕ} (z : Fresh m xs) (cs : List Call) where
   third-fresh = subst (λ (t : Tree). D.Demand3 t (freshBook m) cs) (sym (z .tree)) (demands .fresh m .third cs)
 
   mark-fresh : (g l : ℕ) → fed (freshBook m) (log (view xs) cs) .group g .limit Pages ≡ Figure l
-      → AtLastWrite (view xs) cs g (fed (freshBook m) (log (view xs) cs) .mark g)
+      → AtLastWrite (view xs) cs g l (fed (freshBook m) (log (view xs) cs) .mark g)
   mark-fresh =
-      subst (λ (t : Tree). (g l : ℕ) → fed (freshBook m) (log t cs) .group g .limit Pages ≡ Figure l → AtLastWrite t cs g (fed (freshBook m) (log t cs) .mark g))
+      subst (λ (t : Tree). (g l : ℕ) → fed (freshBook m) (log t cs) .group g .limit Pages ≡ Figure l → AtLastWrite t cs g l (fed (freshBook m) (log t cs) .mark g))
       (sym (z .tree)) (demands .fresh m .mark cs)
 
   devices-fresh : Accounted (run (view xs) cs) (accountFed (freshBook m) noAccount (log (view xs) cs))
@@ -131,7 +131,7 @@ demand-3-of-the-code =
           carried (bookOf (view xs)) f (demands .third (view xs) (f .begun .formed) (callsOf es));
       fresh = λ {m} {xs} {ys} {es} z r. carried (freshBook m) (followed r) (third-fresh z (callsOf es));
       mark = λ {m} {xs} {ys} {es} z r.
-          subst (λ (l : List Entry). (g k : ℕ) → fed (freshBook m) l .group g .limit Pages ≡ Figure k → AtLastWrite (view xs) (callsOf es) g (fed (freshBook m) l .mark g))
+          subst (λ (l : List Entry). (g k : ℕ) → fed (freshBook m) l .group g .limit Pages ≡ Figure k → AtLastWrite (view xs) (callsOf es) g k (fed (freshBook m) l .mark g))
           (sym (followed r .entries)) (mark-fresh z (callsOf es));
       devices = λ {m} {xs} {ys} {es} z r.
           let f = followed r in

@@ -26,8 +26,8 @@ use Rattle.demands.specs.Runs.{Runs, callsOf, Followed}
 use Rattle.demands.specs.Texts.{FindsText}
 
 -- The words xs and the book b before the run, its calls with the numbers answered, the words ys after it. They keep the invariant and
--- stand alike with the book, and a read of memory.current or pids.current delivers the book's figure. Every mark is the usage at the
--- last write, or at the start. Every accepted charge or birth left no group on its way up over its limit. Nothing is lost. io.max has
+-- stand alike with the book, and a read of memory.current or pids.current delivers the book's figure. Every page limit and its mark are of
+-- the last write, or of the start. Every accepted charge or birth left no group on its way up over its limit. Nothing is lost. io.max has
 -- what accepted writes gave, and shows it.
 pub record Kept3 (xs : List ℕ) (b : Book) (es : List Entry) (ys : List ℕ) : Type 0 where
   pub kept : Kept ys
@@ -51,5 +51,5 @@ pub record Demand3 : Type 0 where
   pub fresh : {m : ℕ} {xs ys : List ℕ} {es : List Entry} → Fresh m xs → Runs xs es ys → Kept3 xs (freshBook m) es ys
   pub mark : {m : ℕ} {xs ys : List ℕ} {es : List Entry} → Fresh m xs → Runs xs es ys
       → (g l : ℕ) → fed (freshBook m) es .group g .limit Pages ≡ Figure l
-      → AtLastWrite (view xs) (callsOf es) g (fed (freshBook m) es .mark g)
+      → AtLastWrite (view xs) (callsOf es) g l (fed (freshBook m) es .mark g)
   pub devices : {m : ℕ} {xs ys : List ℕ} {es : List Entry} → Fresh m xs → Runs xs es ys → Accounted (view ys) (accountFed (freshBook m) noAccount es)

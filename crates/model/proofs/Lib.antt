@@ -32,11 +32,11 @@ pub mod Bounds
 pub mod States
 pub mod DeviceBooks
 pub mod DeviceReplyLaws
+pub mod Rounding
 pub mod Marks
 pub mod Reached
 pub mod FileReads
 pub mod WriteBack
-pub mod Rounding
 pub mod Containment
 pub mod OwnsInside
 pub mod Totals

@@ -1,5 +1,5 @@
--- The mark of a group is the usage that it had right after the last accepted write of memory.max to it: no other call moves it, and
--- no other call gives a page limit. Assumes nothing.
+-- The limit of a group is what the last accepted write of memory.max to it gave, and its mark the usage that it had right after: no
+-- other call moves the mark, and none gives a page limit. Assumes nothing.
 use Prim.Native.Nat.{ℕ, suc, _+_}
 use native.Mathlib.Omega.{arith}
 use mathlib.Core.Bool.{true, false}
@@ -11,15 +11,16 @@ use Rattle.model.specs.Functions.{upd, known}
 use Rattle.model.specs.Checks.{Pass, answerNumber}
 use Rattle.model.specs.Tree.{Tree, Core, cores, places}
 use Rattle.model.specs.Hierarchy.{usage}
-use Rattle.model.specs.Text.{bytes, lineWords}
+use Rattle.model.specs.Text.{bytes, lineWords, oneWord}
+use Rattle.model.specs.Figures.{limitWord}
 use Rattle.model.specs.Names.{settings, settingName, settingNamed}
 use Rattle.model.specs.Calls.{Call, settingValue, lineValue, settingChecks, checks, verdict}
 use Rattle.model.specs.Effects.{effect, step}
 use Rattle.model.specs.Replies.{reply}
 use Rattle.model.specs.Book.{Book, enterLimit, entryOf, enterEntry, enterValue, enter, bookStep, bookOf, fed}
 use Rattle.model.specs.WellFormed.{WellFormed}
-use Rattle.model.specs.Lists.{log, bookAfter, Each, Never, Last}
-use Rattle.model.specs.Marks.{SetsMemoryMax, AtLastWrite, AtStart, MarkIs}
+use Rattle.model.specs.Lists.{Accepted, log, bookAfter, Each, Never, Last}
+use Rattle.model.specs.Marks.{SetsMemoryMax, Leaves, AtLastWrite, AtStart, MarkIs}
 use Rattle.model.specs.declared.Resource.{Resource}
 use Rattle.model.specs.declared.Resource.the-variants.{Pages, Processes}
 use Rattle.model.specs.declared.Limit.{Limit}
@@ -40,6 +41,7 @@ use Rattle.model.proofs.Steps.{step-accepted, by-verdict, passed, chang
 use Rattle.model.proofs.Books.{reply-number, bookWith, book-with-same, booked, same-enter, book-step-accepted, book-step-refused}
 use Rattle.model.proofs.Bounds.{Limited, limited-change}
 use Rattle.model.proofs.States.{State, state-begin, state-step}
+use Rattle.model.proofs.Rounding.{figure-given}
 
 -- The file whose line gave a value is the value's own.
 pub file-of-value : (file line : List ℕ) (v : SettingValue) → lineValue file line ≡ some v → file ≡ settingName (settingOf v)
@@ -213,23 +215,34 @@ record Unwritten (t : Tree) (b : Book) (cs : List Call) (g : ℕ) : Type 0 where
   mark : bookAfter t b cs .mark g ≡ b .mark g
   limit : Kept (b .group) (bookAfter t b cs .group) g
 
-written-or-not : (cs : List Call) (t : Tree) (b : Book) → State t b → (g : ℕ)
-    → AtLastWrite t cs g (bookAfter t b cs .mark g) ⊎ Unwritten t b cs g
+-- what a write left, where its limit stands after it
+leaves : (t : Tree) (g l m : ℕ) (c : Call) → SetsMemoryMax g t c → step t c .group g .core .limit Pages ≡ Figure l
+    → m ≡ usage (cores (step t c)) g → Leaves g l m t c
+leaves t g l m c w h u =
+    let f = figure-given t Pages (w .user) g l (w .line) (subst (Accepted t) (w .call) (w .accepted))
+    (ap (λ (x : Call). step t x .group g .core .limit Pages) (sym (w .call)) ∙ h) in
+    record { write = w; figure = f .0; word = f .1; rounded = f .2; marked = u }
+
+written-or-not : (cs : List Call) (t : Tree) (b : Book) → State t b → (g l : ℕ) → bookAfter t b cs .group g .limit Pages ≡ Figure l
+    → AtLastWrite t cs g l (bookAfter t b cs .mark g) ⊎ Unwritten t b cs g
 unfolding Each Last fed log
-written-or-not [] t b s g = inr (record { never = tt; mark = refl; limit = λ l e. e })
-written-or-not (c ∷ cs) t b s g =
+written-or-not [] t b s g l e = inr (record { never = tt; mark = refl; limit = λ l e. e })
+written-or-not (c ∷ cs) t b s g l e =
     let b′ : Book = bookStep b c (reply t c .number) in
+    let s′ : State (step t c) b′ = state-step t b c s in
     ⊎-elim
-    (λ (y : AtLastWrite (step t c) cs g (bookAfter (step t c) b′ cs .mark g)). inl (inr y))
+    (λ (y : AtLastWrite (step t c) cs g l (bookAfter (step t c) b′ cs .mark g)). inl (inr y))
     (λ (u : Unwritten (step t c) b′ cs g). ⊎-elim
-    (λ (y : SetsMemoryMax g t c × (b′ .mark g ≡ usage (cores (step t c)) g)). inl (inl (y .0, u .mark ∙ y .1, u .never)))
+    (λ (y : SetsMemoryMax g t c × (b′ .mark g ≡ usage (cores (step t c)) g)).
+    let h : step t c .group g .core .limit Pages ≡ Figure l = ap (λ x. x g .limit Pages) (s′ .same .groups) ∙ u .limit l e in
+    inl (inl (y .0, leaves t g l _ c (y .0) h (u .mark ∙ y .1), u .never)))
     (λ (y : Other t b s g c). inr (record {
       never = (y .unset, u .never);
       mark = u .mark ∙ y .mark;
       limit = λ l e. y .limit l (u .limit l e);
     }))
     (decided t b s g c))
-    (written-or-not cs (step t c) b′ (state-step t b c s) g)
+    (written-or-not cs (step t c) b′ s′ g l e)
 
 pub mark-is : (t : Tree) → WellFormed t → (cs : List Call) (g l : ℕ) → bookAfter t (bookOf t) cs .group g .limit Pages ≡ Figure l
     → MarkIs t cs g l (bookAfter t (bookOf t) cs .mark g)
@@ -237,9 +250,9 @@ mark-is t w cs g l e =
     ⊎-elim
     (λ y. inl y)
     (λ (u : Unwritten t (bookOf t) cs g). inr (record { unwritten = u .never; limit = u .limit l e; marked = u .mark }))
-    (written-or-not cs t (bookOf t) (state-begin t w) g)
+    (written-or-not cs t (bookOf t) (state-begin t w) g l e)
 
--- A list settles the mark.
+-- A list settles limit and mark.
 never-last : (P Q : Tree → Call → Type 0) (cs : List Call) (t : Tree) → Never P t cs → Last P Q t cs → ⊥
 unfolding Each Last
 never-last P Q [] t n l = l
@@ -264,13 +277,25 @@ one-last P Q R A f (c ∷ cs) t x y =
     (λ (b : Last P R (step t c) cs). one-last P Q R A f cs (step t c) a b) y)
     x
 
-pub one-mark : (t : Tree) (cs : List Call) (g l m n : ℕ) → MarkIs t cs g l m → MarkIs t cs g l n → m ≡ n
-one-mark t cs g l m n x y =
+-- a line gives one limit
+one-left : (g l k m n : ℕ) (t : Tree) (c : Call) → Leaves g l m t c → Leaves g k n t c → (l ≡ k) × (m ≡ n)
+one-left g l k m n t c p q =
+    let e : p .write .line ≡ q .write .line = cc (sym (p .write .call) ∙ q .write .call) in
+    let f : some (Figure (p .figure)) ≡ some (Figure (q .figure)) =
+    sym (p .word) ∙ ap (λ x. oneWord limitWord (lineWords x)) e ∙ q .word in
+    let h : p .figure ≡ q .figure = cc in
+    (omega (arith, h, p .rounded .noMore, p .rounded .next, q .rounded .noMore, q .rounded .next), p .marked ∙ sym (q .marked))
+
+pub one-mark : (t : Tree) (cs : List Call) (g l k m n : ℕ) → MarkIs t cs g l m → MarkIs t cs g k n → (l ≡ k) × (m ≡ n)
+one-mark t cs g l k m n x y =
     ⊎-elim
-    (λ (a : AtLastWrite t cs g m). ⊎-elim
-    (λ (b : AtLastWrite t cs g n). one-last (SetsMemoryMax g) _ _ (m ≡ n) (λ s c p q. p ∙ sym q) cs t a b)
-    (λ (b : AtStart t cs g l n). absurd (never-last (SetsMemoryMax g) _ cs t (b .unwritten) a)) y)
+    (λ (a : AtLastWrite t cs g l m). ⊎-elim
+    (λ (b : AtLastWrite t cs g k n). one-last (SetsMemoryMax g) _ _ ((l ≡ k) × (m ≡ n)) (one-left g l k m n) cs t a b)
+    (λ (b : AtStart t cs g k n). absurd (never-last (SetsMemoryMax g) _ cs t (b .unwritten) a)) y)
     (λ (a : AtStart t cs g l m). ⊎-elim
-    (λ (b : AtLastWrite t cs g n). absurd (never-last (SetsMemoryMax g) _ cs t (a .unwritten) b))
-    (λ (b : AtStart t cs g l n). a .marked ∙ sym (b .marked)) y)
+    (λ (b : AtLastWrite t cs g k n). absurd (never-last (SetsMemoryMax g) _ cs t (a .unwritten) b))
+    (λ (b : AtStart t cs g k n).
+    let f : Figure l ≡ Figure k = sym (a .limit) ∙ b .limit in
+    let e : l ≡ k = cc in
+    (e, a .marked ∙ sym (b .marked))) y)
     x

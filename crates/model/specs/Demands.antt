@@ -1,5 +1,6 @@
 -- The three demands of docs/papers/00-demands.md, as statements about the definitions; what is quoted here is from there, from
--- document 01, or from the order that is named beside it. `Demands` at the end is all of them, and proofs/Demands.antt shows it. Assumes nothing.
+-- document 01, or from the order that is named beside it. `Demands` at the end is all of them, and proofs/Demands.antt shows it.
+-- Assumes nothing.
 use Prim.Native.Nat.{ℕ, suc, _≤_, max}
 use mathlib.Core.Bool.{true, false}
 use mathlib.Core.List.{List, [], _∷_, _++_}
@@ -211,14 +212,14 @@ pub record Demand3 (t : Tree) (b : Book) (cs : List Call) : Type 0 where
 pub record FromFresh (m : ℕ) : Type 0 where
   pub third : (cs : List Call) → Demand3 (fresh m) (freshBook m) cs
   pub mark : (cs : List Call) (g l : ℕ) → bookAfter (fresh m) (freshBook m) cs .group g .limit Pages ≡ Figure l
-      → AtLastWrite (fresh m) cs g (bookAfter (fresh m) (freshBook m) cs .mark g)
+      → AtLastWrite (fresh m) cs g l (bookAfter (fresh m) (freshBook m) cs .mark g)
   pub owns : (user d : ℕ) → user ≢ 0 → OwnsInside (fresh m) user d
   pub devices : (cs : List Call) → Accounted (run (fresh m) cs) (accountAfter (fresh m) (freshBook m) noAccount cs)
   pub deviceReading : (cs : List Call) → DeviceReading (run (fresh m) cs) (accountAfter (fresh m) (freshBook m) noAccount cs)
 
--- What is said of marks settles them.
+-- What is said of limits and marks settles them.
 abbrev pub OneMark : Type 0
-OneMark = (t : Tree) (cs : List Call) (g l m n : ℕ) → MarkIs t cs g l m → MarkIs t cs g l n → m ≡ n
+OneMark = (t : Tree) (cs : List Call) (g l k m n : ℕ) → MarkIs t cs g l m → MarkIs t cs g k n → (l ≡ k) × (m ≡ n)
 
 pub record Demands : Type 0 where
   pub reaching : Reaching
