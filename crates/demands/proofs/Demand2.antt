@@ -24,7 +24,7 @@ use Rattle.model.specs.Calls.{Call, read, fileText, checks, verdict}
 use Rattle.model.specs.Replies.{Asks, reply}
 use Rattle.model.specs.Book.{Entry}
 use Rattle.model.specs.Containment.{caller, OwnsInside, NoneAcross, GivesOutside}
-use Rattle.model.specs.Demands.{StoppedAt, LimitKept}
+use Rattle.model.specs.Demands.{StoppedAt, LimitLeft}
 use Rattle.model.specs.Demands as D
 use Rattle.model.specs.declared.Resource.{Resource}
 use Rattle.model.specs.declared.Setting.{Setting}
@@ -162,9 +162,8 @@ demand-2-of-the-code =
       fifth = λ {xs} user g file line k a.
           let d = demands .second .deviceRefusal (view xs) (k .formed) in
           ((λ e. d .only user g file line (sym (a .answer) ∙ e)), (λ h. a .answer ∙ d .always user g file line h));
-      rounds = λ {xs} r user g figure line e a z.
-          subst (λ (t : Tree). LimitKept t r g figure) (sym (a .tree))
-          (demands .second .rounds (view xs) r user g figure line e (sym (a .answer) ∙ z));
+      rounds = λ {xs} r user g l line e a z.
+          subst (λ (t : Tree). LimitLeft t r g l) (sym (a .tree)) (demands .second .rounds (view xs) r user g l line e (sym (a .answer) ∙ z));
       question = λ {line} e. (firstBadWord line, e, demands .second .question line .answer);
       part = λ {r} {s} p.
           let f = demands .second .question (now s) .answer in

@@ -1,5 +1,5 @@
--- Demand 2 of the code, from the contracts alone: exactly when; what charge and fork tell; when a device is a fifth; what a figure
--- leaves; the question about a control line; texts delivered and written back; containment. Assumes nothing.
+-- Demand 2 of the code, from the contracts alone: exactly when; what charge and fork tell; when a device is a fifth; what a line
+-- of a limit leaves; the question about a control line; texts delivered and written back; containment. Assumes nothing.
 use Prim.Native.Nat.{ℕ, suc, _+_, _≤_}
 use mathlib.Core.Bool.{true}
 use mathlib.Core.List.{List, [], _∷_}
@@ -27,9 +27,9 @@ use Rattle.model.specs.Replies.{Asks, reply}
 use Rattle.model.specs.Book.{Entry}
 use Rattle.model.specs.Containment.{caller, OwnsInside, NoneAcross, GivesOutside}
 use Rattle.model.specs.DeviceReplies.{FifthWrite}
-use Rattle.model.specs.Demands.{StoppedAt, LimitKept}
+use Rattle.model.specs.Demands.{StoppedAt, LimitLeft}
 use Rattle.model.specs.declared.Resource.{Resource}
-use Rattle.model.specs.declared.Limit.the-variants.{Figure}
+use Rattle.model.specs.declared.Limit.{Limit}
 use Rattle.model.specs.declared.Setting.{Setting}
 use Rattle.model.specs.declared.Setting.the-variants.{IoMax, Max}
 use Rattle.model.specs.declared.Answer.{Answer}
@@ -82,10 +82,10 @@ pub record Demand2 : Type 0 where
   -- order 1: a write of a setting is answered 28 exactly where its device is a fifth
   pub fifth : {xs ys : List ℕ} {n : ℕ} (user g : ℕ) (file line : List ℕ) → Kept xs → Answered xs ys (writeSetting user g file line) n
       → (n ≡ 28 → FifthWrite (view xs) user g file line) × (FifthWrite (view xs) user g file line → n ≡ 28)
-  -- order 2: what the figure of an accepted line of memory.max or pids.max leaves
-  pub rounds : {xs ys : List ℕ} {n : ℕ} (r : Resource) (user g figure : ℕ) (line : List ℕ)
-      → oneWord limitWord (lineWords line) ≡ some (Figure figure)
-      → Answered xs ys (writeSetting user g (settingName (Max r)) line) n → n ≡ 0 → LimitKept (view ys) r g figure
+  -- order 2: what an accepted line of memory.max or pids.max leaves, by its word
+  pub rounds : {xs ys : List ℕ} {n : ℕ} (r : Resource) (user g : ℕ) (l : Limit) (line : List ℕ)
+      → oneWord limitWord (lineWords line) ≡ some l
+      → Answered xs ys (writeSetting user g (settingName (Max r)) line) n → n ≡ 0 → LimitLeft (view ys) r g l
   -- told as two words, and as a part of the lent line
   pub question : {line told : List ℕ} → told ≡ partWords (firstBadWord line)
       → (p : Part) × (told ≡ p .start ∷ p .size ∷ []) × FirstBad line p

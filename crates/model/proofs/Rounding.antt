@@ -1,4 +1,4 @@
--- What is kept and shown of the figure of an accepted line of memory.max or pids.max. Assumes nothing.
+-- What an accepted line of memory.max or pids.max leaves: what is kept and shown of a figure. Assumes nothing.
 use Prim.Native.Nat.{ℕ}
 use mathlib.Core.Bool.{true}
 use mathlib.Core.List.{List, append-nil}
@@ -73,7 +73,8 @@ module _ (t : Tree) (r : Resource) (user g : ℕ) (line : List ℕ)
 
 pub rounds : (t : Tree) → Rounds t
 unfolding contents
-rounds t r user g n line e z =
+rounds t r user g NoLimit line e z = limit-written t r user g line z NoLimit e
+rounds t r user g (Figure n) line e z =
     record {
       amount = toAmount r n;
       rounded = rounded-down r n;

@@ -1,5 +1,6 @@
--- Laws of the settings: ranges; rounding; values shown and assigned again; which setting a value is for. What a reset and a value do to a controller's
--- piece is in PieceLaws, to what is allowed in AllowedLaws; how values read as text is in SettingTextLaws. Assumes nothing.
+-- Laws of the settings: ranges; rounding; values shown and assigned again; which setting a value is for. What a reset and a value do
+-- to a controller's piece is in PieceLaws, to what is allowed in AllowedLaws; how values read as text is in SettingTextLaws. Assumes
+-- nothing.
 use Prim.Native.Nat.{ℕ}
 use native.Mathlib.Omega.{arith}
 use mathlib.Core.Bool.{true}

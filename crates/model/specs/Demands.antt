@@ -37,7 +37,8 @@ use Rattle.model.specs.DeviceBook.{noAccount, accountOf, accountAfter, A
 use Rattle.model.specs.DeviceReplies.{DeviceRefusal, DeviceReading}
 use Rattle.model.specs.declared.Resource.{Resource}
 use Rattle.model.specs.declared.Resource.the-variants.{Pages, Processes}
-use Rattle.model.specs.declared.Limit.the-variants.{Figure}
+use Rattle.model.specs.declared.Limit.{Limit}
+use Rattle.model.specs.declared.Limit.the-variants.{NoLimit, Figure}
 use Rattle.model.specs.declared.Setting.{Setting}
 use Rattle.model.specs.declared.Setting.the-variants.{Max}
 use Rattle.model.specs.declared.File.the-variants.{Current, Value}
@@ -106,12 +107,17 @@ pub record LimitKept (t : Tree) (r : Resource) (g n : ℕ) : Type 0 where
   pub limit : t .group g .core .limit r ≡ Figure amount
   pub shown : shownBy t g (Max r) ≡ ended (decimal (toFigure r amount))
 
--- after every accepted line of memory.max or pids.max that is a figure
+-- by the word that was written, "max" or a figure
+abbrev pub LimitLeft : Tree → Resource → ℕ → Limit → Type 0
+LimitLeft t r g NoLimit = t .group g .core .limit r ≡ NoLimit
+LimitLeft t r g (Figure n) = LimitKept t r g n
+
+-- what every accepted line of memory.max or pids.max leaves
 abbrev pub Rounds : Tree → Type 0
 Rounds t =
-    (r : Resource) (user g n : ℕ) (line : List ℕ) → oneWord limitWord (lineWords line) ≡ some (Figure n)
+    (r : Resource) (user g : ℕ) (l : Limit) (line : List ℕ) → oneWord limitWord (lineWords line) ≡ some l
     → Accepted t (writeSetting user g (settingName (Max r)) line)
-    → LimitKept (step t (writeSetting user g (settingName (Max r)) line)) r g n
+    → LimitLeft (step t (writeSetting user g (settingName (Max r)) line)) r g l
 
 -- h is the first group without room on the chain of g, and k its place there, counted from 1
 abbrev pub StoppedAt : Tree → Resource → ℕ → ℕ → ℕ → ℕ → Type 0
@@ -208,7 +214,7 @@ pub record Demand3 (t : Tree) (b : Book) (cs : List Call) : Type 0 where
   pub deviceReading : DeviceReading (run t cs) (accountAfter t b (accountOf t) cs)
 
 -- "Take every list of calls .. from a fresh tree of whatever machine size." Where the list begins a group has no limit, so each
--- mark is from a write, and so is each limit of a device; and a user other than 0 owns nothing.
+-- page limit and its mark are from a write, and so is each limit of a device; and a user other than 0 owns nothing.
 pub record FromFresh (m : ℕ) : Type 0 where
   pub third : (cs : List Call) → Demand3 (fresh m) (freshBook m) cs
   pub mark : (cs : List Call) (g l : ℕ) → bookAfter (fresh m) (freshBook m) cs .group g .limit Pages ≡ Figure l

@@ -107,7 +107,7 @@ movers =
     ++ allGet 13 (procs 7 1 "11" ∷ [])
     ++ reads 2 "cgroup.procs" "4\n5\n11\n" ∷ reads 1 "cgroup.procs" "" ∷ reads 0 "cgroup.procs" "10\n" ∷ [])
 
--- No limit stops a move, and pages move neither with a process nor when it exits.
+-- No limit stops a move, and pages move neither with a process nor when it exits. Limits outlast it.
 abbrev pub staying : Evening
 staying =
     evening 8
@@ -117,7 +117,7 @@ staying =
     ++ granted (charge 5 8) 3 ∷ succeeds (procs 7 3 "5") ∷ []
     ++ reads 2 "memory.current" "32768\n" ∷ reads 3 "memory.current" "0\n" ∷ reads 3 "pids.current" "1\n" ∷ []
     ++ stopped (fork 5 4) 11 3 1 ∷ stopped (charge 5 1) 12 3 1 ∷ []
-    ++ succeeds (exit 5) ∷ reads 1 "memory.current" "32768\n" ∷ [])
+    ++ succeeds (exit 5) ∷ reads 1 "memory.current" "32768\n" ∷ reads 3 "memory.max" "0\n" ∷ reads 3 "pids.max" "0\n" ∷ [])
 
 -- A root with a set takes processes and children, and is charged, released and forked in as before. An exit is of one process.
 abbrev pub inRoot : Evening
@@ -215,6 +215,7 @@ settingRanges =
     (allSucceed (make 0 0 1 ∷ control 0 0 allControllers ∷ setting 0 1 "pids.max" "4194304" ∷ [])
     ++ allGet 34 (map (setting 0 1 "pids.max") ("4194305" ∷ "18446744073709551616" ∷ []))
     ++ reads 1 "pids.max" "4194304\n" ∷ succeeds (setting 0 1 "pids.max" "0") ∷ reads 1 "pids.max" "0\n" ∷ []
+    ++ succeeds (setting 0 1 "pids.max" "max") ∷ reads 1 "pids.max" "max\n" ∷ []
     ++ allSucceed (map (setting 0 1 "cpu.max") ("1000 1000" ∷ "1000000000 1000000" ∷ "0002000 " ∷ []))
     ++ reads 1 "cpu.max" "2000 1000000\n" ∷ succeeds (setting 0 1 "cpu.max" "max") ∷ reads 1 "cpu.max" "max 1000000\n" ∷ []
     ++ succeeds (setting 0 1 "cpu.max" " max  5000") ∷ refuses (setting 0 1 "cpu.max" "3000 999") 34 ∷ []

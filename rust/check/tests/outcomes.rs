@@ -128,6 +128,8 @@ fn staying<H: Calls>() {
     evening.stopped(charge(5, 1), 12, 3, 1);
     evening.succeed([exit(5)]);
     evening.reads(1, "memory.current", "32768\n");
+    evening.reads(3, "memory.max", "0\n");
+    evening.reads(3, "pids.max", "0\n");
 }
 
 fn in_root<H: Calls>() {
@@ -286,6 +288,7 @@ fn setting_ranges<H: Calls>() {
     evening.reads(1, "pids.max", "4194304\n");
     for (file, line, text) in [
         ("pids.max", "0", "0\n"),
+        ("pids.max", "max", "max\n"),
         ("cpu.max", "1000 1000", "1000 1000\n"),
         ("cpu.max", "1000000000 1000000", "1000000000 1000000\n"),
         ("cpu.max", "0002000 ", "2000 1000000\n"),
