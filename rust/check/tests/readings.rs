@@ -1,4 +1,4 @@
-//! Points at which a reader of document 01 may stumble, as rows: what is written, and the answer.
+//! Points at which a reader of the papers may stumble, as rows: what is written, and the answer.
 //! Asked of the model and of the proved host.
 
 #[macro_use]
@@ -6,12 +6,14 @@ mod common;
 
 use common::shown;
 use shootspiral_check::Calls;
+use shootspiral_check::calls::NO_GROUP;
 
 both! {
     lines_for_procs
     lines_for_control
     long_lines
     settings
+    memory_max
     cpu_max
     order_of_checks
     reset
@@ -150,6 +152,44 @@ fn settings<H: Calls>() {
         let asked = format!("{} {}", file.escape_ascii(), line.escape_ascii());
         assert_eq!(host.write_setting(0, 1, file, line), number, "{asked}");
         assert_eq!(host.write_setting(0, 0, file, line), 2, "{asked}");
+    }
+}
+
+/// Each line from "max" on: the answer, what is read then, and the pages of the limit, 3 for more.
+/// Worked out from the papers by somebody who had seen neither the definitions nor their tables.
+fn memory_max<H: Calls>() {
+    for (line, number, after, pages) in [
+        ("0", 0, "0\n", 0),
+        ("1", 0, "0\n", 0),
+        ("4095", 0, "0\n", 0),
+        ("4096", 0, "4096\n", 1),
+        ("4097", 0, "4096\n", 1),
+        ("8191", 0, "4096\n", 1),
+        ("8192", 0, "8192\n", 2),
+        ("10000", 0, "8192\n", 2),
+        ("4503599627366399", 0, "4503599627362304\n", 3),
+        ("4503599627366400", 0, "4503599627366400\n", 3),
+        ("4503599627370495", 0, "4503599627366400\n", 3),
+        ("4503599627370496", 0, "4503599627370496\n", 3),
+        ("4503599627370497", 34, "max\n", 3),
+        ("4503599627374591", 34, "max\n", 3),
+        ("4503599627374592", 34, "max\n", 3),
+        ("18446744073709551615", 34, "max\n", 3),
+        ("18446744073709551616", 34, "max\n", 3),
+        ("max", 0, "max\n", 3),
+        ("00004097", 0, "4096\n", 1),
+    ] {
+        let mut host = H::fresh(1024);
+        host.make(0, 0, 1);
+        host.write_subtree_control(0, 0, b"+memory");
+        host.admit(5, 0);
+        host.write_procs(0, 1, b"5");
+        assert_eq!(host.write_setting(0, 1, b"memory.max", line.as_bytes()), number, "{line}");
+        assert_eq!(shown(&host, 1, "memory.max"), after, "{line}");
+        let mut told = [0; 2];
+        let charged = (0..3).take_while(|_| host.charge(5, 1, &mut told) == 0).count();
+        assert_eq!(charged, pages, "{line}");
+        assert_eq!(told, if pages < 3 { [1, 1] } else { [NO_GROUP, 2] }, "{line}");
     }
 }
 
