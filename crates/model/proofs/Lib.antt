@@ -2,6 +2,8 @@ pub mod FunctionLaws
 pub mod CheckLaws
 pub mod VetLaws
 pub mod ChainLaws
+pub mod CommonAncestorLaws
+pub mod OneWalk
 pub mod HeldLaws
 pub mod AmountLaws
 pub mod RuleLaws
@@ -44,4 +46,5 @@ pub mod Counts
 pub mod Demands
 pub mod Slips
 pub mod Worked
+pub mod Meetings
 pub mod Refusals

@@ -13,6 +13,7 @@ use Rattle.model.specs.Sizes.{longestShown}
 use Rattle.model.specs.Checks.{errnoNumber, Says}
 use Rattle.model.specs.Tree.{Tree, depths, groupOf, controllerOf, cores, lives, parents, places}
 use Rattle.model.specs.Hierarchy.{chain, commonAncestor, on, inside, amount, factsOf}
+use Rattle.model.specs.CommonAncestor.{OneWalk}
 use Rattle.model.specs.Text.{ended, joined, body, linesOf, lineWords, oneWord, decimal}
 use Rattle.model.specs.Names.{baseSettings, settingName, fileName}
 use Rattle.model.specs.Control.{hasBadWord, Part, firstBadWord}
@@ -152,10 +153,15 @@ pub record Question (line : List ℕ) : Type 0 where
   pub only : (p : Part) → FirstBad line p → p ≡ firstBadWord line
   pub refused : HasBad line (hasBadWord line)
 
+-- Order 3, "one walk will do": for every two live groups (specs/CommonAncestor.antt).
+abbrev pub Searches : Tree → Type 0
+Searches t = (g h : ℕ) → lives t g ≡ true → lives t h ≡ true → OneWalk t g h
+
 pub record Demand2 : Type 0 where
   pub exactly : (t : Tree) (c : Call) → Exactly t c
   pub counted : (t : Tree) → WellFormed t → Counted t
   pub lowest : (t : Tree) → WellFormed t → Lowest t
+  pub searches : (t : Tree) → WellFormed t → Searches t
   pub writeBack : (t : Tree) → WellFormed t → WriteBack t
   pub rounds : (t : Tree) → Rounds t
   pub devices : DeviceRules

@@ -4,6 +4,7 @@ pub mod Checks
 pub mod Devices
 pub mod Tree
 pub mod Hierarchy
+pub mod CommonAncestor
 pub mod Text
 pub mod Names
 pub mod Control
@@ -29,6 +30,7 @@ pub mod DeviceBook
 pub mod DeviceReplies
 pub mod Demands
 pub mod Worked
+pub mod Meetings
 pub mod Refusals
 pub mod Outcomes
 pub mod DeviceEvenings

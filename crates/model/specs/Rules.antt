@@ -56,10 +56,11 @@ lineProcess line = orElse 0 (numberLine line)
 
 -- the second 13 of cgroup.procs: "unless the user is 0, or is the process's user and may write the lowest group that is on
 -- both chains, source's and target's"
+abbrev pub mayMoveBelow : Tree → ℕ → ℕ → ℕ → Bool
+mayMoveBelow t user p lowest = eqb user 0 || (eqb user (t .process p .user) && mayWrite t user lowest)
+
 abbrev pub mayMove : Tree → ℕ → ℕ → ℕ → Bool
-mayMove t user p g =
-    eqb user 0
-    || (eqb user (t .process p .user) && mayWrite t user (commonAncestor (parents t) (processGroup t p) g))
+mayMove t user p g = mayMoveBelow t user p (commonAncestor (parents t) (processGroup t p) g)
 
 -- the controllers that a line makes join the set of g, or leave it
 abbrev pub joining : Tree → ℕ → List ℕ → Controller → Bool

@@ -124,3 +124,9 @@ pub enum ReadAnswer {
     Text(usize),
     Refused(Errno),
 }
+
+// The lowest group on two chains, order 3's meeting group, and the number of pairs of entries that the search for it compared.
+pub struct Meeting {
+    pub group: GroupId,
+    pub compared: u64,
+}

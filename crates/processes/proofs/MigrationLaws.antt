@@ -11,22 +11,24 @@ use borrow.Author.Tests.{ltb-true, ltb-false, le-leb, lt-leb, eq-eqb, ne-eqb, no
 use Rattle.model.specs.Functions.{known, orElse}
 use Rattle.model.specs.Sizes.{groups, processes}
 use Rattle.model.specs.Checks.{Check, first, Pass, Says, done, barred, lacking, past, met}
-use Rattle.model.specs.Tree.{Tree, at, isLive, parents, sets, places}
-use Rattle.model.specs.Hierarchy.{firstCommon, commonAncestor}
+use Rattle.model.specs.Tree.{Tree, at, isLive, sets, places}
+use Rattle.model.specs.CommonAncestor.{meeting}
 use Rattle.model.specs.Text.{tooLong}
 use Rattle.model.specs.Control.{anyIn}
-use Rattle.model.specs.Rules.{mayWrite, mayMove, processGroup, numberLine, lineProcess}
+use Rattle.model.specs.Rules.{mayWrite, mayMoveBelow, mayMove, processGroup, numberLine, lineProcess}
 use Rattle.model.specs.Calls.{writeProcs, checks, verdict}
 use Rattle.model.specs.Effects.{effect}
 use Rattle.model.specs.declared.Controller.the-variants.{Cpu, Io, Memory, Pids}
 use Rattle.model.specs.declared.ProcessId.{ProcessId}
 use Rattle.model.specs.declared.Errno.{Errno}
 use Rattle.model.specs.declared.Errno.the-variants.{Esrch, Einval}
+use Rattle.model.specs.declared.Meeting.{Meeting}
 use Rattle.model.specs.declared.Answer.{Answer}
 use Rattle.model.specs.declared.Answer.the-variants.{Done, Refused}
 use Rattle.model.proofs.FunctionLaws.{split}
 use Rattle.model.proofs.CheckLaws.{andThen, first-append, first-pass, says-first}
-use Rattle.model.proofs.ChainLaws.{inside-live, ancestor-of-left}
+use Rattle.model.proofs.ChainLaws.{inside-live}
+use Rattle.model.proofs.CommonAncestorLaws.{ancestor-of-left}
 use Rattle.model.proofs.Steps.{process-lives}
 use Rattle.model.proofs.VetLaws.{tested}
 use Rattle.text.proofs.NumberLaws.{is-none, is-figure}
@@ -34,14 +36,14 @@ use Rattle.text.specs.Number.{clip, asNumber}
 use Rattle.text.specs.declared.number.Number.{Number}
 use Rattle.text.specs.declared.number.Number.the-variants.{Figure, NotANumber}
 use Rattle.tree.specs.Layout.{view}
-use Rattle.tree.specs.Counters.{listed, bottom, ChainOf}
+use Rattle.tree.specs.Counters.{bottom, ChainOf}
 use Rattle.tree.specs.Kept.{Kept, KeptAt}
 use Rattle.tree.specs.Calling.{Calling}
 use Rattle.tree.specs.declared.chain.Chain.{Chain}
 use Rattle.tree.proofs.WalkLaws.{bottom-of}
 use Rattle.tree.proofs.CallLaws.{call-refused, call-done}
-use Rattle.processes.specs.Place.{Moving, Migratable}
-use Rattle.processes.specs.Migration.{groupChecks, numberChecks, lineChecks, isClosed, moveChecks, namedBy, MovedBy, MoveTried}
+use Rattle.processes.specs.Place.{Standing, Moving, Migratable, Moved}
+use Rattle.processes.specs.Migration.{groupChecks, numberChecks, lineChecks, isClosed, moveChecks, namedBy}
 use Rattle.processes.specs.declared.migration.Named.{Named}
 use Rattle.processes.proofs.PlaceLaws.{applied-seated}
 
@@ -106,30 +108,28 @@ module _ (t : Tree) (line : List ℕ) (b : Bool) (e : b ≡ tooLong line) where
           ∙ ap (λ (k : ℕ). namedBy (first (numberChecks t k)) k) (sym (ap (orElse 0) (o .1))) ∙ sym (rw (line-short, ap known (o .1)))
 
 -- The second permission.
-module _ (t : Tree) (user p g : ℕ) where
-  pub may-move-root : user ≡ 0 → true ≡ mayMove t user p g
+module _ (t : Tree) (user p m : ℕ) where
+  pub may-move-root : user ≡ 0 → true ≡ mayMoveBelow t user p m
   may-move-root z = rw (eq-eqb user 0 z)
 
   module _ (nz : user ≢ 0) (own : ℕ) (e : own ≡ t .process p .user) where
-    pub may-move-other : user ≢ own → false ≡ mayMove t user p g
+    pub may-move-other : user ≢ own → false ≡ mayMoveBelow t user p m
     may-move-other ne = rw (ne-eqb user 0 nz, ← e, ne-eqb user own ne)
 
-    pub may-move-own : user ≡ own → (source target : Chain) → ChainOf t (processGroup t p) source → ChainOf t g target
-        → (a : ℕ) → a ≡ firstCommon (listed source) (listed target) → (b : Bool) → b ≡ mayWrite t user a → b ≡ mayMove t user p g
-    unfolding commonAncestor
-    may-move-own y source target h k a f b q =
-        let c : a ≡ commonAncestor (parents t) (processGroup t p) g = f ∙ rw (h .groups, k .groups) in
-        q ∙ rw (c, ne-eqb user 0 nz, ← e, eq-eqb user own y)
+    pub may-move-own : user ≡ own → (b : Bool) → b ≡ mayWrite t user m → b ≡ mayMoveBelow t user p m
+    may-move-own y b q = q ∙ rw (ne-eqb user 0 nz, ← e, eq-eqb user own y)
 
--- The common ancestor of both chains is in range.
-pub ancestor-low : {xs : List ℕ} {p : ℕ} {source target : Chain} → Migratable xs p source target
-    → (a : ℕ) → a ≡ firstCommon (listed source) (listed target) → a < groups
-unfolding commonAncestor
-ancestor-low {xs} {p} {source} {target} h a f =
-    let s = h .moving .to .kept .formed .sound in
-    let o = h .moving .from .home in
-    let c : a ≡ commonAncestor (parents (view xs)) (processGroup (view xs) p) (bottom target) = f ∙ rw (h .source-chain .groups, h .target-chain .groups) in
-    rw c (s .range _ (inside-live s _ (processGroup (view xs) p) (o .live) (ancestor-of-left s (processGroup (view xs) p) (bottom target) (o .live))))
+module _ {xs : List ℕ} {p g m : ℕ} (h : Moving xs p g m) where
+  -- that is the rule's
+  pub may-moved : (user : ℕ) (b : Bool) → b ≡ mayMoveBelow (view xs) user p m → b ≡ mayMove (view xs) user p g
+  may-moved user b e = e ∙ rw (h .meets) refl
+
+  -- and m has a row
+  pub meeting-low : m < groups
+  meeting-low =
+      let s = h .to .kept .formed .sound in
+      let o = h .from .home in
+      rw (h .meets) (s .range _ (inside-live s _ _ (o .live) (ancestor-of-left s (processGroup (view xs) p) g (o .live))))
 
 -- The inner-process rule.
 module _ (t : Tree) (g : ℕ) where
@@ -201,49 +201,48 @@ line-vetted xs user g line p k o n f r =
     }
 
 module _ {xs : List ℕ} {user g : ℕ} {line : List ℕ} {p : ProcessId} (v : LineVetted xs user g line p) where
-  procs-target : KeptAt xs g
+  pub procs-to : KeptAt xs g
   unfolding groupChecks Pass
-  procs-target = record { kept = v .kept; live = first-pass (groupChecks (view xs) user g) (sym (v .target)) .1 .0 }
+  procs-to = record { kept = v .kept; live = first-pass (groupChecks (view xs) user g) (sym (v .target)) .1 .0 }
 
   procs-live : isLive (places (view xs) (p .0)) ≡ true
   unfolding lineChecks numberChecks Pass
   procs-live = rw (v .number) (first-pass (lineChecks (view xs) line) (sym (v .text)) .1 .1 .1 .1 .0)
 
-  pub procs-moving : Moving xs (p .0) g
-  procs-moving =
-      record {
-        from = record { home = record { kept = v .kept; live = process-lives (view xs) (v .kept .formed) (p .0) procs-live }; live = procs-live };
-        to = procs-target;
-      }
+  pub procs-from : Standing xs (p .0)
+  procs-from = record { home = record { kept = v .kept; live = process-lives (view xs) (v .kept .formed) (p .0) procs-live }; live = procs-live }
+
+  -- with what the search found
+  pub procs-moving : (home : ℕ) → home ≡ processGroup (view xs) (p .0) → (m : Meeting) → m ≡ meeting (view xs) home g → Moving xs (p .0) g (m .group .0)
+  procs-moving home e m f = record { from = procs-from; to = procs-to; meets = rw (f, e) refl }
 
   bottom-is : (target : Chain) → ChainOf (view xs) g target → bottom target ≡ g
-  bottom-is target to = bottom-of (view xs) (v .kept .formed .sound) g (procs-target .live) target to
+  bottom-is target to = bottom-of (view xs) (v .kept .formed .sound) g (procs-to .live) target to
 
   -- the chains are those of both groups
-  pub procs-migratable : (source target : Chain) → ChainOf (view xs) (processGroup (view xs) (p .0)) source → ChainOf (view xs) g target
-      → Migratable xs (p .0) source target
-  procs-migratable source target from to =
+  pub procs-migratable : (m : ℕ) → Moving xs (p .0) g m → (source target : Chain) → ChainOf (view xs) (processGroup (view xs) (p .0)) source
+      → ChainOf (view xs) g target → Migratable xs (p .0) source target m
+  procs-migratable m h source target from to =
       let here : bottom target ≡ g = bottom-is target to in
-      record { moving = rw here procs-moving; source-chain = from; target-chain = rw here to }
+      record { moving = rw here h; source-chain = from; target-chain = rw here to }
 
-  -- what the move left
-  module _ (ys : List ℕ) where
-    by-answer : (a : Answer) → MoveTried xs ys user (p .0) g a → Calling xs ys (writeProcs user g line) (verdict (view xs) (writeProcs user g line)) a
+  -- the move's checks, by what they answer
+  module _ (a : Answer) (m : a ≡ first (moveChecks (view xs) user (p .0) g)) where
+    move-verdict : verdict (view xs) (writeProcs user g line) ≡ a
+    move-verdict =
+        procs-verdict xs (v .kept) user g line Done Done a (v .target) (v .text)
+        (m ∙ ap (λ (q : ℕ). first (moveChecks (view xs) user q g)) (v .number))
+
+    pub move-refused : (e : Errno) → a ≡ Refused e → Calling xs xs (writeProcs user g line) (verdict (view xs) (writeProcs user g line)) a
+    move-refused e r =
+        call-refused xs (v .kept) (writeProcs user g line) _ _ e (move-verdict ∙ r) (sym move-verdict)
+
+    -- and what the move left
+    pub move-done : a ≡ Done → (ys : List ℕ) (target : Chain) → ChainOf (view xs) g target → Moved xs ys (p .0) (bottom target)
+        → Calling xs ys (writeProcs user g line) (verdict (view xs) (writeProcs user g line)) Done
     unfolding effect
-    by-answer a m =
-        let same : a ≡ first (moveChecks (view xs) user (lineProcess line) g) =
-        m .answer ∙ ap (λ (q : ℕ). first (moveChecks (view xs) user q g)) (v .number) in
-        let w : verdict (view xs) (writeProcs user g line) ≡ a =
-        procs-verdict xs (v .kept) user g line Done Done a (v .target) (v .text) same in
-        by-verdict a w (m .words)
-      where
-        by-verdict : (a : Answer) → verdict (view xs) (writeProcs user g line) ≡ a → MovedBy xs ys (p .0) g a
-            → Calling xs ys (writeProcs user g line) (verdict (view xs) (writeProcs user g line)) a
-        by-verdict Done w b =
-            call-done xs (v .kept) (writeProcs user g line) w ys _ _
-            (applied-seated xs ys (writeProcs user g line) (p .0) _ (v .kept) w b (rw (v .number))) (sym w)
-        by-verdict (Refused e) w b = rw b (call-refused xs (v .kept) (writeProcs user g line) _ _ e w (sym w))
-
-    pub move-tried : (target : Chain) → ChainOf (view xs) g target → (a : Answer) → MoveTried xs ys user (p .0) (bottom target) a
-        → Calling xs ys (writeProcs user g line) (verdict (view xs) (writeProcs user g line)) a
-    move-tried target to a m = by-answer a (rw (bottom-is target to) at m)
+    move-done d ys target to b =
+        let w : verdict (view xs) (writeProcs user g line) ≡ Done = move-verdict ∙ d in
+        let here : Moved xs ys (p .0) g = rw (bottom-is target to) at b in
+        call-done xs (v .kept) (writeProcs user g line) w ys _ _
+        (applied-seated xs ys (writeProcs user g line) (p .0) _ (v .kept) w here (rw (v .number))) (sym w)

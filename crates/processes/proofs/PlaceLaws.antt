@@ -5,7 +5,7 @@ use native.Mathlib.Omega.{arith}
 use mathlib.Core.Bool.{Bool, true, false}
 use mathlib.Core.List.{List}
 use mathlib.Core.Logic.{_≢_}
-use mathlib.Core.Path.{_≡_, ap, sym, _∙_, subst}
+use mathlib.Core.Path.{_≡_, refl, ap, sym, _∙_, subst}
 use lib.ListN.{length}
 use Rattle.model.specs.Functions.{pick, upd, weigh}
 use Rattle.model.specs.Sizes.{groups, processes}
@@ -17,7 +17,9 @@ use Rattle.model.specs.Calls.{Call, verdict}
 use Rattle.model.specs.Effects.{effect}
 use Rattle.model.specs.declared.Resource.the-variants.{Pages, Processes}
 use Rattle.model.specs.declared.Answer.the-variants.{Done}
-use Rattle.model.proofs.FunctionLaws.{upd-map, weigh-yes, weigh-zero}
+use Rattle.model.proofs.FunctionLaws.{split, upd-map, weigh-yes, weigh-no, weigh-zero}
+use Rattle.model.proofs.ChainLaws.{inside-trans}
+use Rattle.model.proofs.CommonAncestorLaws.{ancestor-of-left, ancestor-of-right}
 use Rattle.model.proofs.AmountLaws.{place-live, place-free, population-change}
 use Rattle.model.proofs.ProcessLaws.{process-range}
 use Rattle.tree.specs.Layout.{treeWords, view, sumIn, Spare}
@@ -28,8 +30,8 @@ use Rattle.tree.specs.Calling.{Applied}
 use Rattle.tree.specs.declared.chain.Chain.{Chain}
 use Rattle.tree.specs.declared.sum.Counter.{Counter}
 use Rattle.tree.specs.declared.sum.Counter.the-variants.{Of, Children}
-use Rattle.tree.proofs.AdjustLaws.{counters-apart}
-use Rattle.tree.proofs.KeptLaws.{adjustable}
+use Rattle.tree.proofs.AdjustLaws.{counters-apart, Rising}
+use Rattle.tree.proofs.KeptLaws.{kept-low, adjustable}
 use Rattle.tree.proofs.WalkLaws.{bottom-of}
 use Rattle.tree.proofs.CallLaws.{applied-as}
 use Rattle.tree.proofs.RoomCallLaws.{sum-after-adjust}
@@ -89,24 +91,6 @@ module _ (xs ys : List ℕ) (g : ℕ) where
         spare = d .spare;
       }
 
-recounted-then : (xs ys zs : List ℕ) (from to : Place) → Recounted xs ys from nowhere → Recounted ys zs nowhere to → Recounted xs zs from to
-recounted-then xs ys zs from to d e =
-    record {
-      long = e .long;
-      tree = e .tree ∙ d .tree;
-      processes = λ a.
-          let same : counted (view ys) to a ≡ counted (view xs) to a = ap (λ (t : Tree). counted t to a) (d .tree) in
-          omega (
-            arith,
-            d .processes a,
-            e .processes a,
-            weigh-zero (inside (parents (view xs)) a 0),
-            weigh-zero (inside (parents (view ys)) a 0),
-          );
-      other = λ c ne a. e .other c ne a ∙ d .other c ne a;
-      spare = λ s. e .spare (d .spare s);
-    }
-
 -- then the place is stored
 module _ (xs ys zs : List ℕ) (k : Kept xs) (p : ℕ) (low : p < processes) (v : Process) where
   seated : Recounted xs ys (places (view xs) p) (v .place) → Wrote ys zs (atProcess (view ys) p v) → Seated xs zs p v
@@ -143,7 +127,7 @@ module _ (xs : List ℕ) (p g : ℕ) (h : Vacant xs p g) where
 
   -- number and group have a row still
   pub enter-rows : (ys : List ℕ) → Adjusted xs ys (Of Processes) g 1 0 → ProcessRow ys p × (g < groups)
-  enter-rows ys d = (record { long = d .long; low = h .low }, h .home .kept .formed .sound .range g (h .home .live))
+  enter-rows ys d = (record { long = d .long; low = h .low }, kept-low (h .home))
 
   pub entered : (ys zs : List ℕ) (user : ℕ) → Adjusted xs ys (Of Processes) g 1 0
       → Wrote ys zs (atProcess (view ys) p (record { place = at g; user = user })) → Seated xs zs p (record { place = at g; user = user })
@@ -185,14 +169,24 @@ module _ (xs : List ℕ) (p : ℕ) (h : Standing xs p) where
       seated xs ys zs (h .home .kept) p standing-low noProcess
       (rw (place-live (places (view xs) p) (h .live)) (left-out ys g e d)) w
 
--- A move: first out of the sums of one group and those above it, then into those of the other.
+-- A move: one less below the lowest group on both chains on the one, and one more on the other.
 not-more : (b : Bool) (s m : ℕ) → pick b (s + 0 - m) s ≤ s
 not-more true s m = omega arith
 not-more false s m = omega arith
 
-module _ {xs : List ℕ} {p : ℕ} {source target : Chain} (h : Migratable xs p source target) where
+-- the sum of a group that is not above both, by whether it is on each chain
+one-each : (b c : Bool) (s u v : ℕ) → (b ≡ true → 1 ≤ s) → u ≡ pick b (s + 0 - 1) s → v ≡ pick c (u + 1 - 0) u → v + weigh b 1 ≡ s + weigh c 1
+one-each true true s u v some d e = omega (arith, some refl, weigh-yes true 1 refl)
+one-each true false s u v some d e = omega (arith, some refl, weigh-yes true 1 refl, weigh-no false 1 refl)
+one-each false true s u v some d e = omega (arith, weigh-yes true 1 refl, weigh-no false 1 refl)
+one-each false false s u v some d e = omega (arith, weigh-no false 1 refl)
+
+module _ {xs : List ℕ} {p : ℕ} {source target : Chain} {m : ℕ} (h : Migratable xs p source target m) where
   source-home : bottom source ≡ processGroup (view xs) p
   source-home = let from = h .moving .from .home in bottom-of (view xs) (from .kept .formed .sound) _ (from .live) source (h .source-chain)
+
+  source-live : lives (view xs) (bottom source) ≡ true
+  source-live = rw source-home (h .moving .from .home .live)
 
   pub leave-chain : ChainOf (view xs) (bottom source) source
   leave-chain = rw source-home (h .source-chain)
@@ -200,10 +194,28 @@ module _ {xs : List ℕ} {p : ℕ} {source target : Chain} (h : Migratable xs p 
   pub leave-along : Adjustable xs (Of Processes) (bottom source) 0 1
   leave-along = leave-adjustable xs p (h .moving .from) (bottom source) 1 source-home (omega arith)
 
-  module _ (ys : List ℕ) (d : Adjusted xs ys (Of Processes) (bottom source) 0 1) where
+  -- the lowest group on both chains is on each
+  pub meeting-left : inside (parents (view xs)) m (bottom source) ≡ true
+  meeting-left = let from = h .moving .from .home in
+      rw (h .moving .meets, source-home) (ancestor-of-left (from .kept .formed .sound) _ _ (from .live))
+
+  meeting-right : inside (parents (view xs)) m (bottom target) ≡ true
+  meeting-right = let to = h .moving .to in rw (h .moving .meets) (ancestor-of-right (to .kept .formed .sound) _ _ (to .live))
+
+  module _ (ys : List ℕ) (d : Rising xs (Of Processes) (bottom source) 0 1 ys m) where
     -- the other chain is the same still
     pub come-chain : ChainOf (view ys) (bottom target) target
     come-chain = subst (λ (t : Tree). ChainOf t (bottom target) target) (sym (d .tree)) (h .target-chain)
+
+    pub come-meeting : inside (parents (view ys)) m (bottom target) ≡ true
+    come-meeting = subst (λ (t : Tree). inside (parents t) m (bottom target) ≡ true) (sym (d .tree)) meeting-right
+
+    -- no sum has more
+    fewer : (a : ℕ) → sumIn ys (Of Processes) a ≤ sumIn xs (Of Processes) a
+    fewer a =
+        split (inside (parents (view xs)) a m)
+        (λ y. omega (arith, d .left a y))
+        (λ o. omega (arith, d .done a o, not-more (inside (parents (view xs)) a (bottom source)) (sumIn xs (Of Processes) a) 1))
 
     pub come-along : Adjustable ys (Of Processes) (bottom target) 1 0
     come-along =
@@ -214,31 +226,61 @@ module _ {xs : List ℕ} {p : ℕ} {source target : Chain} (h : Migratable xs p 
           long = d .long;
           sound = subst (λ (t : Tree). Sound (lives t) (parents t) (depths t)) (sym (d .tree)) (was .sound);
           live = subst (λ (t : Tree). lives t g ≡ true) (sym (d .tree)) (was .live);
-          room = λ a i.
-              omega (
-                arith,
-                was .room a (subst (λ (t : Tree). inside (parents t) a g ≡ true) (d .tree) i),
-                d .sums a,
-                not-more (inside (parents (view xs)) a (bottom source)) (sumIn xs (Of Processes) a) 1,
-              );
+          room = λ a i. omega (arith, was .room a (subst (λ (t : Tree). inside (parents t) a g ≡ true) (d .tree) i), fewer a);
           enough = λ a i. omega arith;
         }
 
-    module _ (zs : List ℕ) (e : Adjusted ys zs (Of Processes) (bottom target) 1 0) where
+    module _ (zs : List ℕ) (e : Rising ys (Of Processes) (bottom target) 1 0 zs m) where
       -- number and group have a row still
       pub move-rows : ProcessRow zs p × (bottom target < groups)
-      move-rows =
-          let to = h .moving .to in
-          (record { long = e .long; low = standing-low xs p (h .moving .from) }, to .kept .formed .sound .range (bottom target) (to .live))
+      move-rows = (record { long = e .long; low = standing-low xs p (h .moving .from) }, kept-low (h .moving .to))
+
+      -- who is inside what is as it was
+      same-inside : (a g : ℕ) → inside (parents (view ys)) a g ≡ inside (parents (view xs)) a g
+      same-inside a g = ap (λ (t : Tree). inside (parents t) a g) (d .tree)
+
+      -- a group that is above both, and one that is not
+      recounted-above : (a : ℕ) → inside (parents (view xs)) a m ≡ true
+          → sumIn zs (Of Processes) a + counted (view xs) (at (bottom source)) a ≡ sumIn xs (Of Processes) a + counted (view xs) (at (bottom target)) a
+      recounted-above a y =
+          let s = h .moving .to .kept .formed .sound in
+          let left : inside (parents (view xs)) a (bottom source) ≡ true = inside-trans s a m (bottom source) source-live meeting-left y in
+          let right : inside (parents (view xs)) a (bottom target) ≡ true = inside-trans s a m (bottom target) (h .moving .to .live) meeting-right y in
+          omega (
+            arith,
+            d .left a y,
+            e .left a (same-inside a m ∙ y),
+            weigh-yes (inside (parents (view xs)) a (bottom source)) 1 left,
+            weigh-yes (inside (parents (view xs)) a (bottom target)) 1 right,
+          )
+
+      recounted-below : (a : ℕ) → inside (parents (view xs)) a m ≡ false
+          → sumIn zs (Of Processes) a + counted (view xs) (at (bottom source)) a ≡ sumIn xs (Of Processes) a + counted (view xs) (at (bottom target)) a
+      recounted-below a o =
+          one-each (inside (parents (view xs)) a (bottom source)) (inside (parents (view xs)) a (bottom target))
+          (sumIn xs (Of Processes) a) (sumIn ys (Of Processes) a) (sumIn zs (Of Processes) a)
+          (λ i. omega (arith, standing-inside xs p (h .moving .from) a (rw source-home at i), h .moving .to .kept .sums (Of Processes) a))
+          (d .done a o)
+          (e .done a (same-inside a m ∙ o)
+          ∙ ap (λ (b : Bool). pick b (sumIn ys (Of Processes) a + 1 - 0) (sumIn ys (Of Processes) a)) (same-inside a (bottom target)))
+
+      recounted : Recounted xs zs (at (bottom source)) (at (bottom target))
+      recounted =
+          record {
+            long = e .long;
+            tree = e .tree ∙ d .tree;
+            processes = λ a. split (inside (parents (view xs)) a m) (recounted-above a) (recounted-below a);
+            other = λ c ne a. e .other c ne a ∙ d .other c ne a;
+            spare = λ x. e .spare (d .spare x);
+          }
 
       pub moved : (us : List ℕ) (user : ℕ) → user ≡ view zs .process p .user
           → Wrote zs us (atProcess (view zs) p (record { place = at (bottom target); user = user })) → Moved xs us p (bottom target)
       moved us user q w =
-          let out : Recounted xs ys (at (processGroup (view xs) p)) nowhere = left-out xs p (h .moving .from) ys (bottom source) source-home d in
-          let come : Recounted ys zs nowhere (at (bottom target)) = recounted-more ys zs (bottom target) e in
           let same : user ≡ view xs .process p .user = q ∙ ap (λ (t : Tree). t .process p .user) (e .tree ∙ d .tree) in
+          let was : places (view xs) p ≡ at (bottom source) = place-live (places (view xs) p) (h .moving .from .live) ∙ ap at (sym source-home) in
           seated xs zs us (h .moving .to .kept) p (standing-low xs p (h .moving .from)) (record { place = at (bottom target); user = view xs .process p .user })
-          (rw (place-live (places (view xs) p) (h .moving .from .live)) (recounted-then xs ys zs _ _ out come)) (rw same at w)
+          (rw was recounted) (rw same at w)
 
 -- An accepted call whose effect is such a change.
 pub applied-seated : (xs ys : List ℕ) (c : Call) (p : ℕ) (v : Process) → Kept xs → verdict (view xs) c ≡ Done → Seated xs ys p v

@@ -3,18 +3,15 @@
 use Prim.Native.Nat.{ℕ}
 use mathlib.Core.Bool.{Bool, not, _&&_}
 use mathlib.Core.List.{List, [], _∷_}
-use mathlib.Core.Path.{_≡_}
 use lib.Dec.{eqb}
 use Rattle.model.specs.Functions.{known}
-use Rattle.model.specs.Checks.{Check, bar, need, first}
+use Rattle.model.specs.Checks.{Check, bar, need}
 use Rattle.model.specs.Tree.{Tree, isLive, lives, sets, places}
 use Rattle.model.specs.Text.{tooLong}
 use Rattle.model.specs.Control.{anyController}
 use Rattle.model.specs.Rules.{noGroupNumber, noProcessNumber, mayWrite, mayMove, numberLine, lineProcess}
 use Rattle.model.specs.declared.Errno.the-variants.{Enoent, Esrch, Eacces, Ebusy, Einval}
 use Rattle.model.specs.declared.Answer.{Answer}
-use Rattle.tree.specs.Layout.{view}
-use Rattle.processes.specs.Place.{Moved}
 use Rattle.processes.specs.declared.migration.Named.{Named}
 
 unfoldable pub groupChecks : Tree → ℕ → ℕ → List Check
@@ -52,13 +49,3 @@ moveChecks t user p g =
 abbrev pub namedBy : Answer → ℕ → Named
 namedBy Answer.Done p = Named.Process (record { 0 = p })
 namedBy (Answer.Refused e) p = Named.Refused e
-
--- the words that a move leaves, by its answer
-abbrev pub MovedBy : List ℕ → List ℕ → ℕ → ℕ → Answer → Type 0
-MovedBy xs ys p g Answer.Done = Moved xs ys p g
-MovedBy xs ys p g (Answer.Refused e) = ys ≡ xs
-
--- a move that the group's checks and the line's let through was tried
-pub record MoveTried (xs ys : List ℕ) (user p g : ℕ) (r : Answer) : Type 0 where
-  pub answer : r ≡ first (moveChecks (view xs) user p g)
-  pub words : MovedBy xs ys p g r

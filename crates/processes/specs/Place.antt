@@ -5,7 +5,8 @@ use mathlib.Core.Bool.{true, false}
 use mathlib.Core.List.{List}
 use mathlib.Core.Path.{_≡_}
 use Rattle.model.specs.Sizes.{processes}
-use Rattle.model.specs.Tree.{Process, at, atProcess, isLive, places}
+use Rattle.model.specs.Tree.{Process, at, atProcess, isLive, parents, places}
+use Rattle.model.specs.Hierarchy.{commonAncestor}
 use Rattle.model.specs.Rules.{processGroup}
 use Rattle.tree.specs.Layout.{view}
 use Rattle.tree.specs.Counters.{bottom, ChainOf}
@@ -23,14 +24,15 @@ pub record Standing (xs : List ℕ) (p : ℕ) : Type 0 where
   pub home : KeptAt xs (processGroup (view xs) p)
   pub live : isLive (places (view xs) p) ≡ true
 
--- a live process and a live group
-pub record Moving (xs : List ℕ) (p g : ℕ) : Type 0 where
+-- a live process and a live group, and m is the lowest group on both chains, the process's group's and g's
+pub record Moving (xs : List ℕ) (p g m : ℕ) : Type 0 where
   pub from : Standing xs p
   pub to : KeptAt xs g
+  pub meets : m ≡ commonAncestor (parents (view xs)) (processGroup (view xs) p) g
 
--- a live process and a live group, with the chains of both groups
-pub record Migratable (xs : List ℕ) (p : ℕ) (source target : Chain) : Type 0 where
-  pub moving : Moving xs p (bottom target)
+-- the same, with the chains of both groups
+pub record Migratable (xs : List ℕ) (p : ℕ) (source target : Chain) (m : ℕ) : Type 0 where
+  pub moving : Moving xs p (bottom target) m
   pub source-chain : ChainOf (view xs) (processGroup (view xs) p) source
   pub target-chain : ChainOf (view xs) (bottom target) target
 

@@ -1,15 +1,17 @@
 // Migration: a write to cgroup.procs moves the process that the line names into a group. No limit stops a move, and pages stay
 // where they are.
+ghost use Prim.Native.Nat.{_<_};
 ghost use mathlib.Core.Path.{_≡_};
+ghost use Rattle.model.specs.Sizes.{groups, processes};
 ghost use Rattle.model.specs.Checks.{first};
-ghost use Rattle.model.specs.Rules.{mayMove, lineProcess};
+ghost use Rattle.model.specs.Rules.{mayMoveBelow, lineProcess};
 ghost use Rattle.model.specs.Calls.{writeProcs};
 ghost use Rattle.tree.specs.Layout.{view};
 ghost use Rattle.tree.specs.Counters.{bottom};
 ghost use Rattle.tree.specs.Kept.{Kept, KeptAt};
 ghost use Rattle.tree.specs.Calling.{Called};
-ghost use Rattle.processes.specs.Place.{Migratable};
-ghost use Rattle.processes.specs.Migration.{groupChecks, lineChecks, numberChecks, moveChecks, namedBy, isClosed, MoveTried};
+ghost use Rattle.processes.specs.Place.{Moving, Migratable, Moved};
+ghost use Rattle.processes.specs.Migration.{groupChecks, lineChecks, numberChecks, moveChecks, namedBy, isClosed};
 use model::Answer;
 use model::Controller;
 use model::Errno;
@@ -88,11 +90,11 @@ fn vet_line(tree: &Tree, line: &[u8]) -> Named
     }
 }
 
-// Whether a user may move a process: user 0, or the process's own user that may write the common ancestor of both groups. The
-// chains are those of the process's group and of the group that it moves to.
-fn may_move(tree: &Tree, user: u32, process: ProcessId, source: Chain, target: Chain) -> bool
-    requires { ⌜ Migratable (now tree) (process .0) source target ⌝ }
-    ensures { λ r. ⌜ r ≡ mayMove (view (now (tree .entry))) user (process .0) (bottom target) ⌝ }
+// Whether a user may move a process: user 0, or the process's own user that may write `lowest`, the lowest group that is on both
+// chains, source's and target's.
+fn may_move(tree: &Tree, user: u32, process: ProcessId, lowest: GroupId) -> bool
+    requires { ⌜ (process .0 < processes) × (lowest .0 < groups) ⌝ }
+    ensures { λ r. ⌜ r ≡ mayMoveBelow (view (now (tree .entry))) user (process .0) (lowest .0) ⌝ }
 {
     if user == 0 {
         return true;
@@ -100,7 +102,7 @@ fn may_move(tree: &Tree, user: u32, process: ProcessId, source: Chain, target: C
     if user as u64 != process_user(tree, process) {
         return false;
     }
-    may_write(tree, user, common_ancestor(source, target))
+    may_write(tree, user, lowest)
 }
 
 // Whether the inner-process rule closes a group to processes: it is not the root, and its set is not empty.
@@ -124,44 +126,38 @@ fn is_closed(tree: &Tree, group: GroupId) -> bool
 }
 
 // 13 the user may not move the process there; 16 the group is closed to processes.
-fn vet_move(tree: &Tree, user: u32, process: ProcessId, source: Chain, target: Chain) -> Answer
-    requires { ⌜ Migratable (now tree) (process .0) source target ⌝ }
-    ensures { λ r. ⌜ r ≡ first (moveChecks (view (now (tree .entry))) user (process .0) (bottom target)) ⌝ }
+fn vet_move(tree: &Tree, user: u32, process: ProcessId, group: GroupId, lowest: GroupId) -> Answer
+    requires { ⌜ Moving (now tree) (process .0) (group .0) (lowest .0) ⌝ }
+    ensures { λ r. ⌜ r ≡ first (moveChecks (view (now (tree .entry))) user (process .0) (group .0)) ⌝ }
 {
-    if !may_move(tree, user, process, source, target) {
+    if !may_move(tree, user, process, lowest) {
         return Answer::Refused(Errno::Eacces);
     }
-    if is_closed(tree, target.at[0]) {
+    if is_closed(tree, group) {
         return Answer::Refused(Errno::Ebusy);
     }
     Answer::Done
 }
 
-// Moves a process from the group of one chain to the group of another, if the user may: the sums of processes have one less along the
-// one, and one more along the other. The walks are here and not in a function of their own: D103.
-fn migrate(tree: &mut Tree, user: u32, process: ProcessId, source: Chain, target: Chain) -> Answer
-    requires { ⌜ Migratable (now tree) (process .0) source target ⌝ }
-    ensures { λ r. ⌜ MoveTried (now (tree .entry)) (now (tree .exit)) user (process .0) (bottom target) r ⌝ }
+// Moves a process from the group of one chain to the group of another. Below the lowest group on both the sums of processes have one
+// less along the one and one more along the other; from there up, one less and one more would be none. The walks are here and not in
+// a function of their own: D130.
+fn migrate(tree: &mut Tree, process: ProcessId, source: Chain, target: Chain, lowest: GroupId)
+    requires { ⌜ Migratable (now tree) (process .0) source target (lowest .0) ⌝ }
+    ensures { λ _. ⌜ Moved (now (tree .entry)) (now (tree .exit)) (process .0) (bottom target) ⌝ }
 {
-    let vetted = vet_move(tree, user, process, source, target);
-    let Answer::Done = vetted else {
-        return vetted;
-    };
     let mut i: usize = 0;
-    while i + 1 < source.len {
+    while source.at[i].0 != lowest.0 {
         adjust(tree, source.at[i], Counter::Of(Resource::Processes), 0, 1);
         i += 1;
     }
-    adjust(tree, GroupId(0), Counter::Of(Resource::Processes), 0, 1);
     let mut j: usize = 0;
-    while j + 1 < target.len {
+    while target.at[j].0 != lowest.0 {
         adjust(tree, target.at[j], Counter::Of(Resource::Processes), 1, 0);
         j += 1;
     }
-    adjust(tree, GroupId(0), Counter::Of(Resource::Processes), 1, 0);
     let own_user = process_user(tree, process);
     put_process(tree, process, target.at[0], own_user);
-    Answer::Done
 }
 
 // Moves the process that the line names into a group.
@@ -178,7 +174,14 @@ pub fn write_procs(tree: &mut Tree, user: u32, group: GroupId, line: &[u8]) -> A
         Named::Process(process) => process,
         Named::Refused(errno) => return Answer::Refused(errno),
     };
-    let source = chain_of(tree, process_group(tree, process));
+    let home = process_group(tree, process);
+    let meeting = common_ancestor(tree, home, group);
+    let vetted = vet_move(tree, user, process, group, meeting.group);
+    let Answer::Done = vetted else {
+        return vetted;
+    };
+    let source = chain_of(tree, home);
     let target = chain_of(tree, group);
-    migrate(tree, user, process, source, target)
+    migrate(tree, process, source, target, meeting.group);
+    Answer::Done
 }

@@ -2,12 +2,17 @@
 -- it goes on as the walk up the parents does. Assumes nothing.
 use Prim.Native.Nat.{ℕ, _+_, _-_, _≤_, _<_}
 use native.Mathlib.Omega.{arith}
+use mathlib.Core.Bool.{true}
 use mathlib.Core.List.{List}
+use mathlib.Core.Logic.{⊎-elim, _≢_}
 use mathlib.Core.Path.{_≡_, ap, sym, _∙_}
+use lib.Dec.{ltb}
 use lib.ListN.{getD, drop}
+use borrow.Author.Tests.{ltb-true, ltb-false}
 use Rattle.model.specs.Tree.{Tree, parents}
-use Rattle.model.specs.Hierarchy.{chain}
-use Rattle.model.proofs.ChainLaws.{chain-up}
+use Rattle.model.specs.Hierarchy.{chain, inside}
+use Rattle.model.proofs.FunctionLaws.{split}
+use Rattle.model.proofs.ChainLaws.{chain-up, inside-cases, inside-root}
 use Rattle.tree.specs.Layout.{view}
 use Rattle.tree.specs.Changes.{AdjustedAt, Adjusted}
 use Rattle.tree.specs.Counters.{listed, groupAt, bottom, ChainOf, Countable, Adjustable}
@@ -65,3 +70,38 @@ module _ (xs : List ℕ) (k : Counter) (c : Chain) (n m : ℕ) (h : ChainOf (vie
 
       pub along-end : (zs : List ℕ) → AdjustedAt ys zs k 0 n m → Adjusted xs zs k (bottom c) n m
       along-end zs e = rising-end xs k (bottom c) n m a ys (groupAt c j) (w .rising) zs (rw at-root e) at-root
+
+-- A walk that goes no farther than a group a of the chain, which is left as it was with those above it.
+pub record AlongTo (xs : List ℕ) (k : Counter) (c : Chain) (n m a : ℕ) (ys : List ℕ) (j : ℕ) : Type 0 where
+  pub along : Along xs k c n m ys j
+  pub ahead : inside (parents (view xs)) a (groupAt c j) ≡ true
+
+module _ (xs : List ℕ) (k : Counter) (c : Chain) (n m : ℕ) (h : ChainOf (view xs) (bottom c) c) (d : Adjustable xs k (bottom c) n m) (a : ℕ) where
+  pub along-to-start : inside (parents (view xs)) a (bottom c) ≡ true → AlongTo xs k c n m a xs 0
+  along-to-start on = record { along = along-start xs k c n m h d; ahead = on }
+
+  module _ (ys : List ℕ) (j : ℕ) (w : AlongTo xs k c n m a ys j) (ne : groupAt c j ≢ a) where
+    -- the root is not left
+    not-top : groupAt c j ≢ 0
+    not-top z = ne (z ∙ sym (inside-root (d .sound) a (rw z at (w .ahead))))
+
+    pub along-to-more : j + 1 < c .len
+    along-to-more =
+        split (ltb (j + 1) (c .len))
+        (λ y. ltb-true (j + 1) (c .len) y)
+        (λ o. absurd (not-top (h .whole .last j (omega (arith, w .along .within, ltb-false (j + 1) (c .len) o)))))
+
+    pub along-to-countable : Countable ys k (groupAt c j) n m
+    along-to-countable = along-countable xs k c n m h d ys j (w .along)
+
+    pub along-to-next : (zs : List ℕ) → AdjustedAt ys zs k (groupAt c j) n m → AlongTo xs k c n m a zs (j + 1)
+    along-to-next zs e =
+        record {
+          along = along-next xs k c n m h d ys j (w .along) zs e along-to-more;
+          ahead = rw (next-up xs k c n m h d ys j (w .along) along-to-more)
+              (⊎-elim (λ (e : a ≡ groupAt c j). absurd (ne (sym e))) (λ i. i)
+              (inside-cases (d .sound) a (groupAt c j) (w .along .rising .live) not-top (w .ahead)));
+        }
+
+  pub along-to-end : (ys : List ℕ) (j : ℕ) → AlongTo xs k c n m a ys j → groupAt c j ≡ a → Rising xs k (bottom c) n m ys a
+  along-to-end ys j w e = rw (← e) (w .along .rising)

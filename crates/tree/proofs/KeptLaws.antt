@@ -1,4 +1,4 @@
--- What follows of words that keep the invariant: sums and own pages are small, a parent has a row, chains can be searched and
+-- What follows of words that keep the invariant: groups and parents have rows, sums and own pages are small, chains can be searched and
 -- adjusted, and room found by the running sums is room by the definitions. Assumes nothing.
 use Prim.Native.Nat.{ℕ, zero, suc, _+_, _^_, _≤_, _<_}
 use native.Mathlib.Omega.{arith}
@@ -22,6 +22,10 @@ use Rattle.tree.specs.Kept.{children, countIn, Kept, KeptAt}
 use Rattle.tree.specs.declared.chain.Chain.{Chain}
 use Rattle.tree.specs.declared.sum.Counter.{Counter}
 use Rattle.tree.specs.declared.sum.Counter.the-variants.{Of, Children}
+
+-- A live group has a row.
+pub kept-low : {xs : List ℕ} {g : ℕ} → KeptAt xs g → g < groups
+kept-low {xs} {g} k = k .kept .formed .sound .range g (k .live)
 
 -- Sums are within the root's, and so within the machine; there are no more processes than numbers.
 sum-le : (n : ℕ) (f g : ℕ → ℕ) → ((j : ℕ) → j < n → f j ≤ g j) → sum n f ≤ sum n g

@@ -1,13 +1,17 @@
 // Chains: a group and its ancestors, lowest first, handed about as one value; and the common ancestor of two groups.
+ghost use Prim.Native.Nat.{min};
 ghost use mathlib.Core.Path.{_≡_};
-ghost use Rattle.model.specs.Hierarchy.{firstCommon};
+ghost use Rattle.model.specs.Tree.{depths};
+ghost use Rattle.model.specs.CommonAncestor.{meeting, entryAt};
 ghost use Rattle.tree.specs.Layout.{view};
 ghost use Rattle.tree.specs.Kept.{KeptAt};
-ghost use Rattle.tree.specs.Counters.{Whole, ChainOf, listed};
+ghost use Rattle.tree.specs.Counters.{ChainOf};
+use super::group::depth;
 use super::group::parent;
 use super::layout::CHAIN;
 use super::layout::Tree;
 use model::GroupId;
+use model::Meeting;
 
 // The first `len` groups of `at`.
 pub struct Chain {
@@ -36,27 +40,33 @@ pub fn chain_of(t: &Tree, g: GroupId) -> Chain
     c
 }
 
-// The lowest group that is on both chains.
-pub fn common_ancestor(a: Chain, b: Chain) -> GroupId
-    requires { ⌜ Whole a × Whole b ⌝ }
-    ensures { λ r. ⌜ r .0 ≡ firstCommon (listed a) (listed b) ⌝ }
+// The group on a group's chain at a depth; where the group is no deeper, the group itself.
+fn ancestor_at(t: &Tree, g: GroupId, level: u64) -> GroupId
+    requires { ⌜ KeptAt (now t) (g .0) ⌝ }
+    ensures { λ r. ⌜ r .0 ≡ entryAt (view (now (t .entry))) (g .0) (min (depths (view (now (t .entry))) (g .0)) level) ⌝ }
 {
-    let n = a.len;
-    let m = b.len;
-    let mut i = 0;
-    let found = 'up: loop {
-        if i == n {
-            break 'up GroupId(0);
-        }
-        let x = a.at[i];
-        let mut j = 0;
-        while j < m {
-            if b.at[j].0 == x.0 {
-                break 'up x;
-            }
-            j += 1;
-        }
-        i += 1;
-    };
-    found
+    let mut here = g;
+    let mut left = depth(t, g);
+    while level < left {
+        here = parent(t, here);
+        left -= 1;
+    }
+    here
+}
+
+// The lowest group on the chains of both groups, and how many pairs were compared. One walk up: only groups of equal depth are
+// compared, the lowest pair first.
+pub fn common_ancestor(t: &Tree, g: GroupId, h: GroupId) -> Meeting
+    requires { ⌜ KeptAt (now t) (g .0) × KeptAt (now t) (h .0) ⌝ }
+    ensures { λ r. ⌜ r ≡ meeting (view (now (t .entry))) (g .0) (h .0) ⌝ }
+{
+    let mut a = ancestor_at(t, g, depth(t, h));
+    let mut b = ancestor_at(t, h, depth(t, g));
+    let mut compared: u64 = 1;
+    while a.0 != b.0 {
+        a = parent(t, a);
+        b = parent(t, b);
+        compared += 1;
+    }
+    Meeting { group: a, compared }
 }

@@ -91,6 +91,7 @@ fn rows() -> Vec<Row> {
         row!("charge, refused by the process's own group", charges_refused),
         row!("make, remove", make_and_remove),
         row!("move between two leaves, by their owner", moves),
+        row!("move between two columns, by user 0", moves_across),
         row!("fork, exit", fork_and_exit),
         row!("write memory.max, a figure", setting_writes),
         row!("write io.max, two keys of a device that is held", device_writes),
@@ -206,6 +207,18 @@ impl<H: Calls> Bench<H> {
         time(ROUNDS, 2, |_| {
             let there = host.write_procs(owner(column), away, b"1\n");
             let back = host.write_procs(owner(column), home, b"1\n");
+            u64::from(there) << 8 | u64::from(back)
+        })
+    }
+
+    /// From leaf to leaf by way of the root.
+    fn moves_across(&mut self, _slice: usize) -> Run {
+        let Bench { host, layout, .. } = self;
+        let home = layout.place[1];
+        let away = layout.place[2];
+        time(ROUNDS, 2, |_| {
+            let there = host.write_procs(0, away, b"1\n");
+            let back = host.write_procs(0, home, b"1\n");
             u64::from(there) << 8 | u64::from(back)
         })
     }

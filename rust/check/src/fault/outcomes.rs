@@ -44,10 +44,13 @@ pub(super) fn limit_stops_move(done: &mut Outcome) {
     }
 }
 
-pub(super) fn ancestor_not_asked(done: &mut Outcome) {
+/// A move that asks another group than the lowest one on both chains, which are given from the
+/// process's group and from the target up.
+fn another_is_asked(done: &mut Outcome, asked: fn(&[u64], &[u64]) -> u64) {
     let Call::WriteProcs { user, group, line } = done.call else { return };
     let Some(moved) = moved(done.before, line) else { return };
-    let may = done.before.may_write(*user, moved.group);
+    let chains = [moved.group, *group].map(|group| done.before.chain(group));
+    let may = done.before.may_write(*user, asked(&chains[0], &chains[1]));
     let refused = done.refused_by();
     if refused == Some(write_procs::MAY_NOT_WRITE_LOWEST) && may {
         *done.number = done.after.write_procs(0, *group, line);
@@ -55,6 +58,32 @@ pub(super) fn ancestor_not_asked(done: &mut Outcome) {
     if !may && refused.is_none_or(|check| check == write_procs::HAS_SET) {
         done.refuse(13);
     }
+}
+
+pub(super) fn ancestor_not_asked(done: &mut Outcome) {
+    another_is_asked(done, |source, _| source[0]);
+}
+
+pub(super) fn walk_from_root(done: &mut Outcome) {
+    another_is_asked(done, |_, _| 0);
+}
+
+/// Place by place, though one group is deeper than the other.
+pub(super) fn unequal_depths(done: &mut Outcome) {
+    another_is_asked(done, |source, target| {
+        let mut pairs = source.iter().zip(target);
+        pairs.find(|(one, other)| one == other).map_or(0, |(&group, _)| group)
+    });
+}
+
+/// Of entries of equal depth, the lowest first.
+pub(super) fn first_unequal_pair(done: &mut Outcome) {
+    another_is_asked(done, |source, target| {
+        let depths = source.len().min(target.len());
+        let [source, target] = [source, target].map(|chain| &chain[chain.len() - depths..]);
+        let mut pairs = source.iter().zip(target);
+        pairs.find(|(one, other)| one != other).map_or(0, |(&group, _)| group)
+    });
 }
 
 /// The children of a group whose controllers were written, if that changed anything.

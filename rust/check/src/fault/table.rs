@@ -17,6 +17,15 @@ pub(super) const FAULTS: &[Fault] = &[
         "a move asks source and target, not their common ancestor",
         Outcome(outcomes::ancestor_not_asked),
     ),
+    fault("a move asks the root", Outcome(outcomes::walk_from_root)),
+    fault(
+        "the common ancestor is sought place by place, however deep",
+        Outcome(outcomes::unequal_depths),
+    ),
+    fault(
+        "the first group that is not on both chains is asked",
+        Outcome(outcomes::first_unequal_pair),
+    ),
     fault("a controller that leaves does not reset its settings", Outcome(outcomes::settings_kept)),
     fault("memory.max is rounded up to a page", Outcome(outcomes::rounded_up)),
     fault("less than a page in memory.max is one page", Outcome(outcomes::never_rounded_to_0)),

@@ -9,18 +9,28 @@ use Rattle.model.specs.Rules.{processGroup}
 use Rattle.tree.specs.Layout.{view}
 use Rattle.tree.specs.Counters.{ChainOf}
 use Rattle.tree.specs.Kept.{KeptAt}
+use Rattle.processes.specs.Place.{Moving}
 use Rattle.processes.specs.Migration.{groupChecks}
 use Rattle.processes.proofs.PlaceLaws.{standing-low}
-use Rattle.processes.proofs.MigrationLaws.{group-refused, line-refused, LineVetted, line-vetted, procs-moving, procs-migratable, move-tried}
+use Rattle.processes.proofs.MigrationLaws.{group-refused, line-refused, LineVetted, line-vetted, procs-to, procs-from, procs-moving, procs-migratable, move-refused, move-done}
 use Rattle.processes.proofs.migration.write_procs.Statement.{statement}
 use Rattle.processes.proofs.migration.write_procs.Tie as tie
 
 -- the places on the way, from the last to the first
-abbrev source-at : tie.After-chain-of → tie.After-process-group
-source-at c = c .before
+abbrev done-at : tie.After-chain-of → tie.After-enum-told3
+done-at c = c .before .before
 
-abbrev home-at : tie.After-process-group → tie.After-named
-home-at c = c .before .before .before
+abbrev move-at : tie.After-enum-told3 → tie.After-vet-move
+move-at c = c .before .before
+
+abbrev found-at : tie.After-vet-move → tie.After-common-ancestor
+found-at c = c .before .before
+
+abbrev home-at : tie.After-common-ancestor → tie.After-process-group
+home-at c = c .before .before
+
+abbrev named-at : tie.After-process-group → tie.After-named
+named-at c = c .before .before .before
 
 abbrev line-at : tie.After-named → tie.After-vet-line
 line-at c = c .before .before
@@ -77,34 +87,69 @@ returns-2 c =
     let o = open-at l in
     line-refused _ (start (group-at o) .pre) _ _ _ (accepted o) _ (l .vet-line .ensures) _ (c .before .named2 .given .1)
 
--- the source's chain
-from : (c : tie.After-chain-of)
-    → let n = home-at (source-at c) in let a = start (group-at (open-at (line-at n))) .args in
-    ChainOf (view (a .tree .now)) (processGroup (view (a .tree .now)) (n .named .given .0 .0 .0)) (c .chain-of .result)
-from c =
-    let a = start (group-at (open-at (line-at (home-at (source-at c))))) .args in
-    subst (λ (g : ℕ). ChainOf (view (a .tree .now)) g (c .chain-of .result)) (source-at c .process-group .ensures) (c .chain-of .ensures)
-
 process-group-requires : tie.Need-process-group-requires
-process-group-requires c κs = standing-low _ _ (procs-moving (vetted (c .before .before)) .from)
+process-group-requires c κs = standing-low _ _ (procs-from (vetted (c .before .before)))
+
+-- the process's group is live
+home : (c : tie.After-process-group)
+    → let a = start (group-at (open-at (line-at (named-at c)))) .args in KeptAt (a .tree .now) (c .process-group .result .0)
+home c = subst (KeptAt _) (sym (c .process-group .ensures)) (procs-from (vetted (named-at c)) .home)
+
+common-ancestor-requires : tie.Need-common-ancestor-requires
+common-ancestor-requires c κs = let h = c .before in (home h, procs-to (vetted (named-at h)))
+
+-- what the search found
+moving : (c : tie.After-common-ancestor)
+    → let n = named-at (home-at c) in let a = start (group-at (open-at (line-at n))) .args in
+    Moving (a .tree .now) (n .named .given .0 .0 .0) (a .group .0) (c .common-ancestor .result .group .0)
+moving c =
+    let h = home-at c in
+    procs-moving (vetted (named-at h)) _ (h .process-group .ensures) _ (c .common-ancestor .ensures)
+
+vet-move-requires : tie.Need-vet-move-requires
+vet-move-requires c κs = moving (c .before)
+
+enum-told-3 : tie.Need-enum-told-3
+enum-told-3 c = search needs
+
+enum-told-4 : tie.Need-enum-told-4
+enum-told-4 c = search needs
+
+-- refused by the move's
+returns-3 : tie.Need-returns-3
+returns-3 c =
+    let m = c .before .before in
+    move-refused (vetted (named-at (home-at (found-at m)))) _ (m .vet-move .ensures) _ (c .enum-told4 .given .1)
 
 chain-of-requires : tie.Need-chain-of-requires
-chain-of-requires c κs = subst (KeptAt _) (sym (c .process-group .ensures)) (procs-moving (vetted (home-at c)) .from .home)
+chain-of-requires c κs = home (home-at (found-at (move-at (c .before))))
+
+-- the source's chain
+from : (c : tie.After-chain-of)
+    → let n = named-at (home-at (found-at (move-at (done-at c)))) in let a = start (group-at (open-at (line-at n))) .args in
+    ChainOf (view (a .tree .now)) (processGroup (view (a .tree .now)) (n .named .given .0 .0 .0)) (c .chain-of .result)
+from c =
+    let h = home-at (found-at (move-at (done-at c))) in
+    let a = start (group-at (open-at (line-at (named-at h)))) .args in
+    subst (λ (g : ℕ). ChainOf (view (a .tree .now)) g (c .chain-of .result)) (h .process-group .ensures) (c .chain-of .ensures)
 
 chain-of-requires-2 : tie.Need-chain-of-requires-2
-chain-of-requires-2 c κs = procs-moving (vetted (home-at (source-at (c .before)))) .to
+chain-of-requires-2 c κs = procs-to (vetted (named-at (home-at (found-at (move-at (done-at (c .before)))))))
 
 migrate-requires : tie.Need-migrate-requires
 migrate-requires c κs =
     let k = c .before in
-    let h = k .before .before in
-    procs-migratable (vetted (home-at (source-at h))) _ _ (from h) (k .chain-of2 .ensures)
+    let s = k .before .before in
+    let f = found-at (move-at (done-at s)) in
+    procs-migratable (vetted (named-at (home-at f))) _ (moving f) _ _ (from s) (k .chain-of2 .ensures)
 
--- as the move answers
-returns-3 : tie.Need-returns-3
-returns-3 c =
+-- moved
+returns-4 : tie.Need-returns-4
+returns-4 c =
     let k = c .before .before in
-    move-tried (vetted (home-at (source-at (k .before .before)))) _ _ (k .chain-of2 .ensures) _ (c .migrate .ensures)
+    let d = done-at (k .before .before) in
+    let m = move-at d in
+    move-done (vetted (named-at (home-at (found-at m)))) _ (m .vet-move .ensures) (d .enum-told3 .given .1) _ _ (k .chain-of2 .ensures) (c .migrate .ensures)
 
 pub write-procs-spec : {M : Type 1} → statement M
 write-procs-spec =
@@ -119,7 +164,12 @@ write-procs-spec =
     enum-known-named-2
     returns-2
     process-group-requires
+    common-ancestor-requires
+    vet-move-requires
+    enum-told-3
+    enum-told-4
+    returns-3
     chain-of-requires
     chain-of-requires-2
     migrate-requires
-    returns-3)
+    returns-4)

@@ -1,92 +1,81 @@
--- `tree::chain::common_ancestor` meets its contract. The outer loop's invariant: the first common group of what is left of the
--- one chain is that of the whole; the inner loop's: the group is on what is left of the other where it is on the whole.
--- The measures are what is left. Assumes nothing.
-use Prim.Native.Nat.{_-_, _≤_}
+-- `tree::chain::common_ancestor` meets its contract. The invariant: the two groups reached have one depth, and the common ancestor of
+-- the two that the walk began at. The measure is their depth. Assumes nothing.
 use native.Mathlib.Omega.{arith}
-use mathlib.Core.Path.{_≡_, refl, sym, _∙_}
-use lib.ListN.{drop}
-use Rattle.model.specs.Functions.{member}
-use Rattle.model.specs.Hierarchy.{firstCommon}
-use Rattle.tree.specs.Counters.{listed}
-use Rattle.tree.proofs.WalkLaws.{on-here, on-later, on-none, common-here, common-later, common-none}
+use Rattle.model.specs.Tree.{lives, parents, depths}
+use Rattle.model.specs.WellFormed.{Sound}
+use Rattle.tree.specs.Layout.{view}
+use Rattle.tree.proofs.KeptLaws.{kept-low}
+use Rattle.tree.proofs.MeetingLaws.{Levelled, levelled-at, Comparing, comparing-start, comparing-few, comparing-next, comparing-less, comparing-end}
 use Rattle.tree.proofs.chain.common_ancestor.Statement.{statement}
 use Rattle.tree.proofs.chain.common_ancestor.Tie as tie
 
 abbrev Inv-loop : tie.InvT-loop
-Inv-loop a b n m i x j₀ j = (j ≤ m) × (member (x .0) (drop j (listed b)) ≡ member (x .0) (listed b))
+Inv-loop t a₀ b₀ compared₀ a b compared = Comparing (view t) a₀ b₀ a b compared
 
 abbrev μ-loop : tie.MeasureT-loop
-μ-loop a b n m i x j₀ j = m - j
+μ-loop t a₀ b₀ compared₀ a b compared = depths (view t) (a .0)
 
-abbrev Inv-up : tie.InvT-up
-Inv-up a b n m i₀ i = (i ≤ n) × (firstCommon (drop i (listed a)) (listed b) ≡ firstCommon (listed a) (listed b))
+-- the places on the way, from the last to the first
+abbrev begun-at : tie.At-loop Inv-loop μ-loop → tie.After-ancestor-at2 Inv-loop μ-loop
+begun-at l = l .before
 
-abbrev μ-up : tie.MeasureT-up
-μ-up a b n m i₀ i = n - i
+abbrev start : tie.After-ancestor-at2 Inv-loop μ-loop → tie.Start Inv-loop μ-loop
+start c = c .before .before .before .before
 
-up-holds : tie.Need-up-holds Inv-loop μ-loop Inv-up μ-up
-up-holds c = (omega arith, refl)
+sound : (c : tie.After-ancestor-at2 Inv-loop μ-loop)
+    → let t = view (start c .args .t .now) in Sound (lives t) (parents t) (depths t)
+sound c = start c .pre .0 .kept .formed .sound
 
-mul-x : tie.Need-mul-x Inv-loop μ-loop Inv-up μ-up
-mul-x c = omega arith
+-- the walk begins at the smaller depth
+begun : (c : tie.After-ancestor-at2 Inv-loop μ-loop)
+    → let a = start c .args in Levelled (view (a .t .now)) (a .g .0) (a .h .0) (c .before .before .ancestor-at .result) (c .ancestor-at2 .result)
+begun c =
+    let e = c .before in
+    let m = e .before in
+    let d = m .before in
+    levelled-at _ (sound c) (start c .pre .0 .live) (start c .pre .1 .live) _ _ (d .depth .ensures) (e .depth2 .ensures)
+    (m .ancestor-at .ensures) (c .ancestor-at2 .ensures)
 
-element-copy-out-x : tie.Need-element-copy-out-x Inv-loop μ-loop Inv-up μ-up
-element-copy-out-x c = omega arith
+depth-requires : tie.Need-depth-requires Inv-loop μ-loop
+depth-requires c κs = search kept-low depth 6
 
-loop-holds : tie.Need-loop-holds Inv-loop μ-loop Inv-up μ-up
-loop-holds c = (omega arith, refl)
+ancestor-at-requires : tie.Need-ancestor-at-requires Inv-loop μ-loop
+ancestor-at-requires c κs = c .before .pre .0
 
-mul-if2 : tie.Need-mul-if2 Inv-loop μ-loop Inv-up μ-up
-mul-if2 c = omega arith
+depth-requires-2 : tie.Need-depth-requires-2 Inv-loop μ-loop
+depth-requires-2 c κs = search kept-low depth 6
 
-element-copy-out-if2 : tie.Need-element-copy-out-if2 Inv-loop μ-loop Inv-up μ-up
-element-copy-out-if2 c = omega arith
+ancestor-at-requires-2 : tie.Need-ancestor-at-requires-2 Inv-loop μ-loop
+ancestor-at-requires-2 c κs = c .before .before .before .pre .1
 
-add-j : tie.Need-add-j Inv-loop μ-loop Inv-up μ-up
-add-j c = omega arith
+loop-holds : tie.Need-loop-holds Inv-loop μ-loop
+loop-holds c = comparing-start _ (sound c) (begun c)
 
-loop-less : tie.Need-loop-less Inv-loop μ-loop Inv-up μ-up
-loop-less c = omega arith
+parent-requires : tie.Need-parent-requires Inv-loop μ-loop
+parent-requires c κs = let l = c .before .before .before in sound (begun-at l) .range _ (l .loop .inv .left)
 
--- not this one
-loop-again : tie.Need-loop-again Inv-loop μ-loop Inv-up μ-up
+parent-requires-2 : tie.Need-parent-requires-2 Inv-loop μ-loop
+parent-requires-2 c κs = let l = c .before .before .before .before in sound (begun-at l) .range _ (l .loop .inv .right)
+
+add-compared : tie.Need-add-compared Inv-loop μ-loop
+add-compared c =
+    let l = c .before .before .before .before .before in
+    omega (arith, comparing-few _ (sound (begun-at l)) (begun (begun-at l)) (l .loop .inv))
+
+loop-less : tie.Need-loop-less Inv-loop μ-loop
+loop-less c =
+    let l = c .before .before .before .before .before in
+    comparing-less _ (sound (begun-at l)) (l .loop .inv) (c .before .before .if1 .taken) (c .before .parent .ensures)
+
+loop-again : tie.Need-loop-again Inv-loop μ-loop
 loop-again c =
-    let l = c .before .before .before in
-    let s = l .before .before .before .before in
-    (omega arith, on-later (s .args .t2) (s .pre .1) (l .loop .j) _ (c .before .before .loop-test .taken) (c .if2 .left) ∙ l .loop .inv .1)
+    let l = c .before .before .before .before .before in
+    comparing-next _ (sound (begun-at l)) (l .loop .inv) (c .before .before .if1 .taken) (c .before .parent .ensures) (c .parent2 .ensures)
 
-add-i : tie.Need-add-i Inv-loop μ-loop Inv-up μ-up
-add-i c = omega arith
-
-up-less : tie.Need-up-less Inv-loop μ-loop Inv-up μ-up
-up-less c = omega arith
-
--- none of the other chain
-up-again : tie.Need-up-again Inv-loop μ-loop Inv-up μ-up
-up-again c =
-    let l = c .before in
-    let u = l .before .before .before in
-    let s = u .before in (
-      omega arith,
-      common-later (s .args .t1) (s .pre .0) (u .up .i) (listed (s .args .t2)) (omega arith)
-          (sym (l .loop .inv .1) ∙ on-none (s .args .t2) (s .pre .1) (l .loop .j) _ (omega arith)) ∙ u .up .inv .1,
-    )
-
--- the chain is at its end
-returns : tie.Need-returns Inv-loop μ-loop Inv-up μ-up
+returns : tie.Need-returns Inv-loop μ-loop
 returns c =
-    let u = c .before in
-    let s = u .before in
-    common-none (s .args .t1) (s .pre .0) (u .up .i) (listed (s .args .t2)) (omega arith) ∙ u .up .inv .1
-
--- found
-returns-2 : tie.Need-returns-2 Inv-loop μ-loop Inv-up μ-up
-returns-2 c =
     let l = c .before .before .before in
-    let u = l .before .before .before in
-    let s = u .before in
-    common-here (s .args .t1) (s .pre .0) (u .up .i) (listed (s .args .t2)) (omega arith)
-    (sym (l .loop .inv .1) ∙ on-here (s .args .t2) (s .pre .1) (l .loop .j) _ (c .before .before .loop-test .taken) (c .if2 .taken)) ∙ u .up .inv .1
+    comparing-end _ (sound (begun-at l)) (begun (begun-at l)) (l .loop .inv) (c .if1 .left)
 
 pub common-ancestor-spec : {M : Type 1} → statement M
 common-ancestor-spec =
@@ -94,19 +83,14 @@ common-ancestor-spec =
     (tie.spec
     Inv-loop
     μ-loop
-    Inv-up
-    μ-up
-    up-holds
-    mul-x
-    element-copy-out-x
+    depth-requires
+    ancestor-at-requires
+    depth-requires-2
+    ancestor-at-requires-2
     loop-holds
-    mul-if2
-    element-copy-out-if2
-    add-j
+    parent-requires
+    parent-requires-2
+    add-compared
     loop-less
     loop-again
-    add-i
-    up-less
-    up-again
-    returns
-    returns-2)
+    returns)
