@@ -1,5 +1,5 @@
 -- Laws of the common ancestor in a sound tree: it is the lowest group on both chains; and it stays while a group that is not on the
--- other's chain, or each of two groups of one depth, is left for its parent. Assumes nothing.
+-- other's chain, or each of two different groups of one depth, is left for its parent. Assumes nothing.
 use Prim.Native.Nat.{ℕ, _≤_}
 use native.Mathlib.Omega.{arith}
 use mathlib.Core.Bool.{Bool, true, false}

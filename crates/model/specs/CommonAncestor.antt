@@ -45,8 +45,8 @@ pub record AtDepth (t : Tree) (g d : ℕ) : Type 0 where
   pub on-chain : inside (parents t) (entryAt t g d) g ≡ true
   pub level : depths t (entryAt t g d) ≡ d
 
--- Only entries of equal depth are compared, for every depth at which both chains have one. An equal pair is always met, and none below
--- the lowest group on both chains: that is what the walk finds.
+-- Pairs are of entries of equal depth, one for each depth at which both chains have an entry. No pair below the lowest group on both
+-- chains is equal, and the one there is: that is what the walk finds.
 pub record OneWalk (t : Tree) (g h : ℕ) : Type 0 where
   pub pairs : (d : ℕ) → d ≤ smallerDepth t g h → AtDepth t g d × AtDepth t h d
   pub all : (d : ℕ) → AtDepth t g d → AtDepth t h d → d ≤ smallerDepth t g h

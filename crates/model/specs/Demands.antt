@@ -145,6 +145,10 @@ pub record Lowest (t : Tree) : Type 0 where
   pub below : (g h a : ℕ) → lives t g ≡ true → inside (parents t) a g ≡ true → inside (parents t) a h ≡ true
       → inside (parents t) a (commonAncestor (parents t) g h) ≡ true
 
+-- Order 3, "one walk will do": for every two live groups (specs/CommonAncestor.antt).
+abbrev pub Searches : Tree → Type 0
+Searches t = (g h : ℕ) → lives t g ≡ true → lives t h ≡ true → OneWalk t g h
+
 -- The question about a control line: it answers the first bad word by its place, and nothing else fits; and a line that is
 -- refused for a bad word has one.
 pub record Question (line : List ℕ) : Type 0 where
@@ -152,10 +156,6 @@ pub record Question (line : List ℕ) : Type 0 where
   pub answer : FirstBad line (firstBadWord line)
   pub only : (p : Part) → FirstBad line p → p ≡ firstBadWord line
   pub refused : HasBad line (hasBadWord line)
-
--- Order 3, "one walk will do": for every two live groups (specs/CommonAncestor.antt).
-abbrev pub Searches : Tree → Type 0
-Searches t = (g h : ℕ) → lives t g ≡ true → lives t h ≡ true → OneWalk t g h
 
 pub record Demand2 : Type 0 where
   pub exactly : (t : Tree) (c : Call) → Exactly t c

@@ -62,8 +62,8 @@ searches =
     -- one above the other, next to it and farther
     ∷ finds 0 8 0 1 ∷ finds 8 0 0 1 ∷ finds 7 8 7 1 ∷ finds 8 7 7 1 ∷ finds 1 16 1 1 ∷ finds 16 1 1 1
     -- of one depth, by how far above they meet
-    ∷ finds 8 9 7 2 ∷ finds 9 8 7 2 ∷ finds 2 10 1 2 ∷ finds 1 24 0 2 ∷ finds 24 1 0 2 ∷ finds 4 12 1 4
-    ∷ finds 21 25 22 2 ∷ finds 8 16 1 8 ∷ finds 16 9 1 8 ∷ finds 8 17 0 9 ∷ finds 17 16 0 9
+    ∷ finds 8 9 7 2 ∷ finds 9 8 7 2 ∷ finds 21 25 22 2 ∷ finds 2 10 1 2 ∷ finds 1 24 0 2 ∷ finds 24 1 0 2 ∷ finds 3 11 1 3
+    ∷ finds 4 12 1 4 ∷ finds 5 13 1 5 ∷ finds 6 14 1 6 ∷ finds 7 15 1 7 ∷ finds 8 16 1 8 ∷ finds 16 9 1 8 ∷ finds 8 17 0 9 ∷ finds 17 16 0 9
     -- of two depths: the smaller one counts
     ∷ finds 4 16 1 4 ∷ finds 16 4 1 4 ∷ finds 2 16 1 2 ∷ finds 16 2 1 2 ∷ finds 1 17 0 2 ∷ finds 17 1 0 2 ∷ finds 5 23 0 3 ∷ finds 23 5 0 3
     ∷ finds 7 16 1 7 ∷ finds 16 7 1 7 ∷ finds 25 17 22 2 ∷ finds 17 25 22 2

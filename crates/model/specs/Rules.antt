@@ -55,7 +55,7 @@ abbrev pub lineProcess : List ℕ → ℕ
 lineProcess line = orElse 0 (numberLine line)
 
 -- the second 13 of cgroup.procs: "unless the user is 0, or is the process's user and may write the lowest group that is on
--- both chains, source's and target's"
+-- both chains, source's and target's". `mayMoveBelow` is told that group, and `mayMove` says which it is.
 abbrev pub mayMoveBelow : Tree → ℕ → ℕ → ℕ → Bool
 mayMoveBelow t user p lowest = eqb user 0 || (eqb user (t .process p .user) && mayWrite t user lowest)
 

@@ -169,7 +169,7 @@ module _ (xs : List ℕ) (p : ℕ) (h : Standing xs p) where
       seated xs ys zs (h .home .kept) p standing-low noProcess
       (rw (place-live (places (view xs) p) (h .live)) (left-out ys g e d)) w
 
--- A move: one less below the lowest group on both chains on the one, and one more on the other.
+-- A move: below the lowest group on both chains one less along the one, and one more along the other.
 not-more : (b : Bool) (s m : ℕ) → pick b (s + 0 - m) s ≤ s
 not-more true s m = omega arith
 not-more false s m = omega arith
@@ -239,9 +239,11 @@ module _ {xs : List ℕ} {p : ℕ} {source target : Chain} {m : ℕ} (h : Migrat
       same-inside : (a g : ℕ) → inside (parents (view ys)) a g ≡ inside (parents (view xs)) a g
       same-inside a g = ap (λ (t : Tree). inside (parents t) a g) (d .tree)
 
+      abbrev RecountedAt : ℕ → Type 0
+      RecountedAt a = sumIn zs (Of Processes) a + counted (view xs) (at (bottom source)) a ≡ sumIn xs (Of Processes) a + counted (view xs) (at (bottom target)) a
+
       -- a group that is above both, and one that is not
-      recounted-above : (a : ℕ) → inside (parents (view xs)) a m ≡ true
-          → sumIn zs (Of Processes) a + counted (view xs) (at (bottom source)) a ≡ sumIn xs (Of Processes) a + counted (view xs) (at (bottom target)) a
+      recounted-above : (a : ℕ) → inside (parents (view xs)) a m ≡ true → RecountedAt a
       recounted-above a y =
           let s = h .moving .to .kept .formed .sound in
           let left : inside (parents (view xs)) a (bottom source) ≡ true = inside-trans s a m (bottom source) source-live meeting-left y in
@@ -254,8 +256,7 @@ module _ {xs : List ℕ} {p : ℕ} {source target : Chain} {m : ℕ} (h : Migrat
             weigh-yes (inside (parents (view xs)) a (bottom target)) 1 right,
           )
 
-      recounted-below : (a : ℕ) → inside (parents (view xs)) a m ≡ false
-          → sumIn zs (Of Processes) a + counted (view xs) (at (bottom source)) a ≡ sumIn xs (Of Processes) a + counted (view xs) (at (bottom target)) a
+      recounted-below : (a : ℕ) → inside (parents (view xs)) a m ≡ false → RecountedAt a
       recounted-below a o =
           one-each (inside (parents (view xs)) a (bottom source)) (inside (parents (view xs)) a (bottom target))
           (sumIn xs (Of Processes) a) (sumIn ys (Of Processes) a) (sumIn zs (Of Processes) a)

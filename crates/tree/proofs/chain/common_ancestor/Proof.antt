@@ -1,5 +1,6 @@
 -- `tree::chain::common_ancestor` meets its contract. The invariant: the two groups reached have one depth, and the common ancestor of
--- the two that the walk began at. The measure is their depth. Assumes nothing.
+-- the two that the walk began at; pairs compared and their depth come to the depth where it began, plus one. The measure is their
+-- depth. Assumes nothing.
 use native.Mathlib.Omega.{arith}
 use Rattle.model.specs.Tree.{lives, parents, depths}
 use Rattle.model.specs.WellFormed.{Sound}
