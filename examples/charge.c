@@ -3,7 +3,8 @@
 #define BYTES(text) (const uint8_t *)(text), sizeof(text) - 1
 int main(void)
 {
-	uint64_t tree[SS_TREE_WORDS], told[2];
+	static uint64_t tree[SS_TREE_WORDS];                                          /* 148 KB, so not on the stack */
+	uint64_t told[2];
 	ss_fresh(tree, 1024);                                                         /* a machine of 1024 pages */
 	ss_write_subtree_control(tree, ss_u(0), ss_g(0), BYTES("+memory"));           /* user 0: limits act below the root */
 	ss_make(tree, ss_u(0), ss_g(0), ss_g(1));                                     /* and makes group 1 there */

@@ -8,7 +8,10 @@
  *     |- 2   of user 1000, memory in its set
  *     |  `- 3
  *     |- 4   of user 1000
- *     `- 21, 22 below it, and so on down to 28 at depth 8, with process 30
+ *     `- 201, 202 below it, and so on down to 216 at depth 16, with process 30
+ *
+ * Then the last numbers, all live: 239 below the root, memory.max 2000 pages, 240 below it, and so on
+ * down to 253 at depth 15; below that 254 with all 1024 processes, and 255 with none and an own page.
  *
  * A row is a call, the number that 01 gives it and what it tells. The rows of a call stand in the
  * order of its checks, and many break a later check too. Where a line, a file name or a buffer has
@@ -21,7 +24,9 @@
 #include "shootspiral.h"
 
 #define NOBODY UINT32_MAX           /* a user who owns nothing */
-#define TWO_32 UINT64_C(4294967296) /* 0 if it were cut to 32 bits */
+#define TWO_8 UINT64_C(256)         /* 0 if it were cut to 8 bits */
+#define TWO_16 UINT64_C(65536)      /* to 16 */
+#define TWO_32 UINT64_C(4294967296) /* to 32 */
 #define MOST UINT64_MAX
 #define NONE SS_NO_GROUP
 
@@ -99,36 +104,36 @@ struct row {
 /* These leave the tree as it was. The few with 0 read, or ask for what already holds. */
 static const struct row same[] = {
 	/* user, parent, group: number */
-	MAKE(0, 64, 5, 22),
-	MAKE(0, 256, 5, 22),
-	MAKE(0, 257, 5, 22),
+	MAKE(0, SS_LAST_GROUP + 1, 5, 22),
+	MAKE(0, TWO_8 + 1, 5, 22),
+	MAKE(0, TWO_16, 5, 22),
 	MAKE(0, TWO_32, 5, 22),
 	MAKE(0, MOST, 5, 22),
-	MAKE(0, 0, 64, 22),
-	MAKE(0, 0, 256, 22),
-	MAKE(0, 0, 257, 22),
+	MAKE(0, 0, SS_LAST_GROUP + 1, 22),
+	MAKE(0, 0, TWO_8 + 5, 22),
+	MAKE(0, 0, TWO_16 + 5, 22),
 	MAKE(0, 0, TWO_32 + 5, 22),
 	MAKE(0, 0, MOST, 22),
-	MAKE(NOBODY, 63, 64, 22),
-	MAKE(0, 63, 5, 2),
-	MAKE(NOBODY, 63, 1, 2),
+	MAKE(NOBODY, SS_LAST_GROUP, SS_LAST_GROUP + 1, 22),
+	MAKE(0, SS_LAST_GROUP, 5, 2),
+	MAKE(NOBODY, SS_LAST_GROUP, 1, 2),
 	MAKE(0, 0, 0, 17),
 	MAKE(0, 0, 1, 17),
 	MAKE(NOBODY, 0, 1, 17),
-	MAKE(NOBODY, 0, 63, 13),
-	MAKE(1000, 0, 63, 13),
-	MAKE(NOBODY, 28, 63, 13),
-	MAKE(0, 28, 63, 11),
+	MAKE(NOBODY, 0, SS_LAST_GROUP, 13),
+	MAKE(1000, 0, SS_LAST_GROUP, 13),
+	MAKE(NOBODY, 216, SS_LAST_GROUP, 13),
+	MAKE(0, 216, SS_LAST_GROUP, 11),
 
 	/* user, group: number */
-	REMOVE(0, 64, 22),
-	REMOVE(0, 256, 22),
-	REMOVE(0, 257, 22),
+	REMOVE(0, SS_LAST_GROUP + 1, 22),
+	REMOVE(0, TWO_8 + 3, 22),
+	REMOVE(0, TWO_16 + 3, 22),
 	REMOVE(0, TWO_32 + 3, 22),
 	REMOVE(0, MOST, 22),
-	REMOVE(NOBODY, 64, 22),
-	REMOVE(0, 63, 2),
-	REMOVE(NOBODY, 63, 2),
+	REMOVE(NOBODY, SS_LAST_GROUP + 1, 22),
+	REMOVE(0, SS_LAST_GROUP, 2),
+	REMOVE(NOBODY, SS_LAST_GROUP, 2),
 	REMOVE(NOBODY, 0, 13),
 	REMOVE(NOBODY, 1, 13),
 	REMOVE(1000, 4, 13),
@@ -138,26 +143,26 @@ static const struct row same[] = {
 
 	/* user, group, owner: number */
 	HAND_OVER(0, 0, 1000, 22),
-	HAND_OVER(0, 64, 1000, 22),
-	HAND_OVER(0, 256, 1000, 22),
-	HAND_OVER(0, 257, 1000, 22),
+	HAND_OVER(0, SS_LAST_GROUP + 1, 1000, 22),
+	HAND_OVER(0, TWO_8 + 1, 2000, 22),
+	HAND_OVER(0, TWO_16 + 1, 2000, 22),
 	HAND_OVER(0, TWO_32 + 1, 2000, 22),
 	HAND_OVER(0, MOST, NOBODY, 22),
 	HAND_OVER(NOBODY, 0, NOBODY, 22),
-	HAND_OVER(0, 63, NOBODY, 2),
-	HAND_OVER(NOBODY, 63, 0, 2),
+	HAND_OVER(0, SS_LAST_GROUP, NOBODY, 2),
+	HAND_OVER(NOBODY, SS_LAST_GROUP, 0, 2),
 	HAND_OVER(NOBODY, 1, NOBODY, 13),
 	HAND_OVER(1000, 1, 0, 13),
 
 	/* user, group, line: number */
-	PROCS(0, 64, T("10"), 22),
-	PROCS(0, 256, T("10"), 22),
-	PROCS(0, 257, T("10"), 22),
+	PROCS(0, SS_LAST_GROUP + 1, T("10"), 22),
+	PROCS(0, TWO_8 + 4, T("10"), 22),
+	PROCS(0, TWO_16 + 4, T("10"), 22),
 	PROCS(0, TWO_32 + 4, T("10"), 22),
 	PROCS(0, MOST, NO_BYTE_OF("10"), 22),
-	PROCS(NOBODY, 64, T("x"), 22),
-	PROCS(0, 63, T("10"), 2),
-	PROCS(NOBODY, 63, NO_BYTE_OF("10"), 2),
+	PROCS(NOBODY, SS_LAST_GROUP + 1, T("x"), 22),
+	PROCS(0, SS_LAST_GROUP, T("10"), 2),
+	PROCS(NOBODY, SS_LAST_GROUP, NO_BYTE_OF("10"), 2),
 	PROCS(NOBODY, 4, T("10"), 13),
 	PROCS(NOBODY, 4, NO_BYTE_OF("10"), 13),
 	PROCS(0, 4, NO_BYTE_OF("10"), 22),
@@ -174,12 +179,14 @@ static const struct row same[] = {
 	PROCS(0, 4, T(SPACES_120 SPACES_120 SPACES_10 SPACES_10 SPACES_10 SPACES_10 SPACES_10 "        10"), 22),
 	PROCS(0, 4, T("0"), 22),
 	PROCS(0, 4, T(ZEROS_120 "00000000"), 22),
-	PROCS(0, 4, T("63"), 3),
-	PROCS(0, 4, T("256"), 3),
-	PROCS(0, 4, T("257"), 3),
+	PROCS(0, 4, T("266"), 3),
+	PROCS(0, 4, T("1024"), 3),
+	PROCS(0, 4, T("1025"), 3),
+	PROCS(0, 4, T("1034"), 3),
+	PROCS(0, 4, T("65546"), 3),
 	PROCS(0, 4, T("4294967306"), 3),
 	PROCS(0, 4, T("18446744073709551626"), 3),
-	PROCS(0, 4, T(ZEROS_120 "0000257"), 3),
+	PROCS(0, 4, T(ZEROS_120 "0001025"), 3),
 	PROCS(0, 4, T("9" ZEROS_120 "0000010"), 3),
 	PROCS(1000, 2, T("11"), 3),
 	PROCS(1000, 4, T("20"), 13),
@@ -188,14 +195,14 @@ static const struct row same[] = {
 	PROCS(0, 2, T("10"), 16),
 
 	/* user, group, line: number */
-	CONTROL(0, 64, T("-cpu"), 22),
-	CONTROL(0, 256, T("-cpu"), 22),
-	CONTROL(0, 257, T("-cpu"), 22),
+	CONTROL(0, SS_LAST_GROUP + 1, T("-cpu"), 22),
+	CONTROL(0, TWO_8 + 1, T("-cpu"), 22),
+	CONTROL(0, TWO_16, T("-cpu"), 22),
 	CONTROL(0, TWO_32, T("-cpu"), 22),
 	CONTROL(0, MOST, NO_BYTE_OF("-cpu"), 22),
-	CONTROL(NOBODY, 64, T("x"), 22),
-	CONTROL(0, 63, T("-cpu"), 2),
-	CONTROL(NOBODY, 63, NO_BYTE_OF("-cpu"), 2),
+	CONTROL(NOBODY, SS_LAST_GROUP + 1, T("x"), 22),
+	CONTROL(0, SS_LAST_GROUP, T("-cpu"), 2),
+	CONTROL(NOBODY, SS_LAST_GROUP, NO_BYTE_OF("-cpu"), 2),
 	CONTROL(NOBODY, 0, T("-cpu"), 13),
 	CONTROL(NOBODY, 0, NO_BYTE_OF("-cpu"), 13),
 	CONTROL(NOBODY, 0, T("x"), 13),
@@ -226,13 +233,13 @@ static const struct row same[] = {
 	CONTROL(0, 0, T("-io +io"), 0),
 
 	/* user, group, file, line: number */
-	SETTING(0, 64, T("cpu.weight"), T("1"), 22),
-	SETTING(0, 256, T("cpu.weight"), T("1"), 22),
-	SETTING(0, 257, T("cpu.weight"), T("1"), 22),
+	SETTING(0, SS_LAST_GROUP + 1, T("cpu.weight"), T("1"), 22),
+	SETTING(0, TWO_8 + 4, T("cpu.weight"), T("1"), 22),
+	SETTING(0, TWO_16 + 4, T("cpu.weight"), T("1"), 22),
 	SETTING(0, TWO_32 + 4, T("cpu.weight"), T("1"), 22),
 	SETTING(0, MOST, NO_BYTE_OF("cpu.weight"), NO_BYTE_OF("1"), 22),
-	SETTING(0, 63, T("cpu.weight"), T("1"), 2),
-	SETTING(NOBODY, 63, NO_BYTE_OF("cpu.weight"), NO_BYTE_OF("1"), 2),
+	SETTING(0, SS_LAST_GROUP, T("cpu.weight"), T("1"), 2),
+	SETTING(NOBODY, SS_LAST_GROUP, NO_BYTE_OF("cpu.weight"), NO_BYTE_OF("1"), 2),
 	SETTING(0, 4, NO_BYTE_OF("cpu.weight"), T("1"), 2),
 	SETTING(NOBODY, 4, NO_BYTE_OF("cpu.weight"), NO_BYTE_OF("1"), 2),
 	SETTING(0, 4, T("cpu.weigh"), T("1"), 2),
@@ -354,7 +361,8 @@ static const struct row same[] = {
 
 	/* process, user: number */
 	ADMIT(0, 0, 22),
-	ADMIT(257, 0, 22),
+	ADMIT(SS_LAST_PROCESS + 1, 0, 22),
+	ADMIT(TWO_16 + 1, 0, 22),
 	ADMIT(TWO_32 + 1, 0, 22),
 	ADMIT(MOST, NOBODY, 22),
 	ADMIT(10, 0, 17),
@@ -362,13 +370,16 @@ static const struct row same[] = {
 
 	/* parent, process: number, group without room, cgroups consulted */
 	FORK(0, 11, 3, NONE, 0),
-	FORK(63, 11, 3, NONE, 0),
-	FORK(256, 11, 3, NONE, 0),
-	FORK(257, 11, 3, NONE, 0),
+	FORK(TWO_8 + 20, 11, 3, NONE, 0),
+	FORK(SS_LAST_PROCESS, 11, 3, NONE, 0),
+	FORK(SS_LAST_PROCESS + 1, 11, 3, NONE, 0),
+	FORK(SS_LAST_PROCESS + 20, 11, 3, NONE, 0),
+	FORK(TWO_16 + 20, 11, 3, NONE, 0),
 	FORK(TWO_32 + 20, 11, 3, NONE, 0),
 	FORK(MOST, MOST, 3, NONE, 0),
 	FORK(20, 0, 22, NONE, 0),
-	FORK(20, 257, 22, NONE, 0),
+	FORK(20, SS_LAST_PROCESS + 1, 22, NONE, 0),
+	FORK(20, TWO_16 + 11, 22, NONE, 0),
 	FORK(20, TWO_32 + 11, 22, NONE, 0),
 	FORK(10, MOST, 22, NONE, 0),
 	FORK(20, 20, 17, NONE, 0),
@@ -377,17 +388,21 @@ static const struct row same[] = {
 
 	/* process: number */
 	EXIT(0, 3),
-	EXIT(63, 3),
-	EXIT(256, 3),
-	EXIT(257, 3),
+	EXIT(TWO_8 + 10, 3),
+	EXIT(SS_LAST_PROCESS, 3),
+	EXIT(SS_LAST_PROCESS + 1, 3),
+	EXIT(SS_LAST_PROCESS + 10, 3),
+	EXIT(TWO_16 + 10, 3),
 	EXIT(TWO_32 + 10, 3),
 	EXIT(MOST, 3),
 
 	/* process, pages: number, group without room, cgroups consulted */
 	CHARGE(0, 1, 3, NONE, 0),
-	CHARGE(63, 1, 3, NONE, 0),
-	CHARGE(256, 1, 3, NONE, 0),
-	CHARGE(257, 0, 3, NONE, 0),
+	CHARGE(TWO_8 + 20, 1, 3, NONE, 0),
+	CHARGE(SS_LAST_PROCESS, 1, 3, NONE, 0),
+	CHARGE(SS_LAST_PROCESS + 1, 0, 3, NONE, 0),
+	CHARGE(SS_LAST_PROCESS + 20, 1, 3, NONE, 0),
+	CHARGE(TWO_16 + 20, 1, 3, NONE, 0),
 	CHARGE(TWO_32 + 20, 1, 3, NONE, 0),
 	CHARGE(MOST, MOST, 3, NONE, 0),
 	CHARGE(20, 0, 22, NONE, 0),
@@ -397,45 +412,45 @@ static const struct row same[] = {
 	CHARGE(10, 1, 12, 1, 1),
 	CHARGE(10, 1048576, 12, 1, 1),
 	CHARGE(20, 1023, 12, 0, 1),
-	CHARGE(30, 1023, 12, 0, 9),
+	CHARGE(30, 1023, 12, 0, 17),
 
 	/* group, pages: number */
-	RELEASE(64, 1, 22),
-	RELEASE(256, 1, 22),
-	RELEASE(257, 1, 22),
+	RELEASE(SS_LAST_GROUP + 1, 1, 22),
+	RELEASE(TWO_8 + 1, 1, 22),
+	RELEASE(TWO_16 + 1, 1, 22),
 	RELEASE(TWO_32 + 1, 1, 22),
 	RELEASE(MOST, MOST, 22),
 	RELEASE(1, 0, 22),
 	RELEASE(1, 1048577, 22),
 	RELEASE(1, TWO_32 + 1, 22),
-	RELEASE(63, MOST, 22),
-	RELEASE(63, 1, 2),
+	RELEASE(SS_LAST_GROUP, MOST, 22),
+	RELEASE(SS_LAST_GROUP, 1, 2),
 	RELEASE(0, 1, 34),
 	RELEASE(1, 3, 34),
 	RELEASE(1, 1048576, 34),
 
 	/* group, file, room: number, text */
-	READ(64, T("cgroup.procs"), 916, 22, T("")),
-	READ(256, T("cgroup.procs"), 916, 22, T("")),
-	READ(257, T("cgroup.procs"), 916, 22, T("")),
-	READ(TWO_32, T("cgroup.procs"), 916, 22, T("")),
+	READ(SS_LAST_GROUP + 1, T("cgroup.procs"), SS_LONGEST_REPLY, 22, T("")),
+	READ(TWO_8 + 1, T("cgroup.procs"), SS_LONGEST_REPLY, 22, T("")),
+	READ(TWO_16, T("cgroup.procs"), SS_LONGEST_REPLY, 22, T("")),
+	READ(TWO_32, T("cgroup.procs"), SS_LONGEST_REPLY, 22, T("")),
 	READ(MOST, NO_BYTE_OF("cgroup.procs"), 0, 22, T("")),
-	READ(63, T("cgroup.procs"), 916, 2, T("")),
-	READ(63, NO_BYTE_OF("cgroup.procs"), 0, 2, T("")),
-	READ(0, NO_BYTE_OF("cgroup.procs"), 916, 2, T("")),
+	READ(SS_LAST_GROUP, T("cgroup.procs"), SS_LONGEST_REPLY, 2, T("")),
+	READ(SS_LAST_GROUP, NO_BYTE_OF("cgroup.procs"), 0, 2, T("")),
+	READ(0, NO_BYTE_OF("cgroup.procs"), SS_LONGEST_REPLY, 2, T("")),
 	READ(0, NO_BYTE_OF("cgroup.procs"), 0, 2, T("")),
-	READ(0, T("cgroup.proc"), 916, 2, T("")),
-	READ(0, T("cgroup.procs\0"), 916, 2, T("")),
-	READ(0, T("cgroup.procs\n"), 916, 2, T("")),
-	READ(0, T("\0"), 916, 2, T("")),
+	READ(0, T("cgroup.proc"), SS_LONGEST_REPLY, 2, T("")),
+	READ(0, T("cgroup.procs\0"), SS_LONGEST_REPLY, 2, T("")),
+	READ(0, T("cgroup.procs\n"), SS_LONGEST_REPLY, 2, T("")),
+	READ(0, T("\0"), SS_LONGEST_REPLY, 2, T("")),
 	READ(0, T("\xff"), 0, 2, T("")),
 	READ(0, T(ZEROS_120 ZEROS_120 ZEROS_10 ZEROS_10 ZEROS_10 ZEROS_10 ZEROS_10 ZEROS_10), 0, 2, T("")),
 	READ(0, T("cgroup.events"), 0, 2, T("")),
-	READ(0, T("memory.max"), 916, 2, T("")),
-	READ(0, T("io.max"), 916, 2, T("")),
-	READ(3, T("cpu.max"), 916, 2, T("")),
+	READ(0, T("memory.max"), SS_LONGEST_REPLY, 2, T("")),
+	READ(0, T("io.max"), SS_LONGEST_REPLY, 2, T("")),
+	READ(3, T("cpu.max"), SS_LONGEST_REPLY, 2, T("")),
 	READ(3, T("io.max"), 0, 2, T("")),
-	READ(1, T("io.max\0"), 916, 2, T("")),
+	READ(1, T("io.max\0"), SS_LONGEST_REPLY, 2, T("")),
 	READ(0, T("cgroup.procs"), 0, 28, T("")),
 	READ(0, T("cgroup.procs"), 2, 28, T("")),
 	READ(0, T("cgroup.controllers"), 18, 28, T("")),
@@ -444,27 +459,29 @@ static const struct row same[] = {
 	READ(1, T("io.max"), 0, 28, T("")),
 	READ(1, T("io.max"), 391, 28, T("")),
 	READ(1, T("io.max"), 392, 0, T(FOUR_DEVICES)),
-	READ(1, T("io.max"), 916, 0, T(FOUR_DEVICES)),
+	READ(1, T("io.max"), SS_LONGEST_REPLY, 0, T(FOUR_DEVICES)),
 	READ(4, T("io.max"), 0, 0, T("")),
-	READ(4, T("io.max"), 916, 0, T("")),
+	READ(4, T("io.max"), SS_LONGEST_REPLY, 0, T("")),
 	READ(0, T("cgroup.controllers"), 19, 0, T("cpu io memory pids\n")),
-	READ(0, T("cgroup.procs"), 916, 0, T("20\n")),
+	READ(0, T("cgroup.procs"), SS_LONGEST_REPLY, 0, T("20\n")),
 	READ(1, T("cgroup.subtree_control"), 0, 0, T("")),
-	READ(1, T("cgroup.subtree_control"), 916, 0, T("")),
+	READ(1, T("cgroup.subtree_control"), SS_LONGEST_REPLY, 0, T("")),
 
 	/* process, room: number, text */
-	MEMBERSHIP(0, 916, 3, T("")),
-	MEMBERSHIP(63, 916, 3, T("")),
-	MEMBERSHIP(256, 916, 3, T("")),
-	MEMBERSHIP(257, 0, 3, T("")),
-	MEMBERSHIP(TWO_32 + 20, 916, 3, T("")),
+	MEMBERSHIP(0, SS_LONGEST_REPLY, 3, T("")),
+	MEMBERSHIP(TWO_8 + 20, SS_LONGEST_REPLY, 3, T("")),
+	MEMBERSHIP(SS_LAST_PROCESS, SS_LONGEST_REPLY, 3, T("")),
+	MEMBERSHIP(SS_LAST_PROCESS + 1, 0, 3, T("")),
+	MEMBERSHIP(SS_LAST_PROCESS + 20, SS_LONGEST_REPLY, 3, T("")),
+	MEMBERSHIP(TWO_16 + 20, SS_LONGEST_REPLY, 3, T("")),
+	MEMBERSHIP(TWO_32 + 20, SS_LONGEST_REPLY, 3, T("")),
 	MEMBERSHIP(MOST, 0, 3, T("")),
 	MEMBERSHIP(20, 0, 28, T("")),
 	MEMBERSHIP(20, 4, 28, T("")),
 	MEMBERSHIP(30, 0, 28, T("")),
-	MEMBERSHIP(30, 27, 28, T("")),
+	MEMBERSHIP(30, 67, 28, T("")),
 	MEMBERSHIP(20, 5, 0, T("0::/\n")),
-	MEMBERSHIP(30, 28, 0, T("0::/21/22/23/24/25/26/27/28\n")),
+	MEMBERSHIP(30, 68, 0, T("0::/201/202/203/204/205/206/207/208/209/210/211/212/213/214/215/216\n")),
 
 	/* line: place, length */
 	WORD(NO_BYTE_OF("x"), 0, 0),
@@ -484,7 +501,8 @@ static const struct row same[] = {
 
 /* These are accepted and must change the tree. */
 static const struct row changing[] = {
-	MAKE(0, 0, 63, 0),
+	MAKE(0, 0, SS_LAST_GROUP, 0),
+	MAKE(0, 215, SS_LAST_GROUP, 0),
 	REMOVE(0, 3, 0),
 	HAND_OVER(0, 1, NOBODY, 0),
 	PROCS(0, 4, T("10\n"), 0),
@@ -500,12 +518,61 @@ static const struct row changing[] = {
 	SETTING(0, 4, T("io.max"), T("  255:0  wiops=1 riops=max wbps=4503599627370496 \n"), 0),
 	SETTING(0, 1, T("io.max"), T("0255:00252 wiops=1"), 0),
 	SETTING(0, 1, T("io.max"), T("255:254 rbps=max wbps=max riops=max wiops=max"), 0),
-	ADMIT(256, NOBODY, 0),
+	ADMIT(SS_LAST_PROCESS, NOBODY, 0),
+	ADMIT(TWO_8 + 10, 0, 0),
 	ADMIT(1, 0, 0),
-	FORK(30, 256, 0, NONE, 9),
+	FORK(30, SS_LAST_PROCESS, 0, NONE, 17),
+	FORK(20, TWO_8 + 20, 0, NONE, 1),
 	EXIT(10, 0),
 	CHARGE(20, 1022, 0, NONE, 1),
 	RELEASE(1, 2, 0),
+};
+
+/* Of the scene of the last numbers: the group with all processes, its parent, and what its cgroup.procs reads. */
+#define CROWD (SS_LAST_GROUP - 1)
+#define ABOVE (SS_LAST_GROUP - 2)
+#define LISTING { listing, 4013 }
+
+static char listing[SS_LONGEST_REPLY + 1];
+
+/* The same two lists for that scene. */
+static const struct row last_same[] = {
+	MAKE(0, SS_LAST_GROUP, 1, 11),
+	MAKE(0, 0, SS_LAST_GROUP, 17),
+	REMOVE(0, CROWD, 16),
+	PROCS(0, ABOVE, T("1024"), 16),
+	CONTROL(0, CROWD, T("+cpu"), 16),
+	CONTROL(0, SS_LAST_GROUP, NO_BYTE_OF("+cpu"), 0),
+	ADMIT(SS_LAST_PROCESS, 0, 17),
+	ADMIT(SS_LAST_PROCESS + 1, 0, 22),
+	FORK(SS_LAST_PROCESS + 1, 1, 3, NONE, 0),
+	FORK(SS_LAST_PROCESS, SS_LAST_PROCESS + 1, 22, NONE, 0),
+	FORK(1, SS_LAST_PROCESS, 17, NONE, 0),
+	EXIT(SS_LAST_PROCESS + 1, 3),
+	CHARGE(SS_LAST_PROCESS + 1, 1, 3, NONE, 0),
+	CHARGE(SS_LAST_PROCESS, 2000, 12, 239, 16),
+	RELEASE(SS_LAST_GROUP, 2, 34),
+	READ(CROWD, T("cgroup.procs"), 0, 28, T("")),
+	READ(CROWD, T("cgroup.procs"), 4012, 28, T("")),
+	READ(CROWD, T("cgroup.procs"), 4013, 0, LISTING),
+	READ(CROWD, T("pids.current"), 5, 0, T("1024\n")),
+	READ(SS_LAST_GROUP, T("cgroup.procs"), 0, 0, T("")),
+	READ(SS_LAST_GROUP, T("memory.current"), 5, 0, T("4096\n")),
+	MEMBERSHIP(SS_LAST_PROCESS + 1, 68, 3, T("")),
+	MEMBERSHIP(SS_LAST_PROCESS, 67, 28, T("")),
+	MEMBERSHIP(SS_LAST_PROCESS, 68, 0, T("0::/239/240/241/242/243/244/245/246/247/248/249/250/251/252/253/254\n")),
+};
+
+static const struct row last_changing[] = {
+	MAKE(0, ABOVE, 1, 0),
+	REMOVE(0, SS_LAST_GROUP, 0),
+	HAND_OVER(0, SS_LAST_GROUP, NOBODY, 0),
+	PROCS(0, SS_LAST_GROUP, T("1024"), 0),
+	CONTROL(0, SS_LAST_GROUP, T("+cpu"), 0),
+	SETTING(0, SS_LAST_GROUP, T("cpu.weight"), T("1"), 0),
+	EXIT(SS_LAST_PROCESS, 0),
+	CHARGE(SS_LAST_PROCESS, 1999, 0, NONE, 17),
+	RELEASE(SS_LAST_GROUP, 1, 0),
 };
 
 /* What calls are lent, and around it what they are not. */
@@ -516,7 +583,7 @@ struct lent {
 	uint64_t told[2];
 	uint8_t before_reply[64];
 	uint8_t reply[SS_LONGEST_REPLY];
-	uint8_t after_reply[60];
+	uint8_t after_reply[64 - SS_LONGEST_REPLY % 8]; /* up to a word's end */
 };
 
 static struct lent scene, lent, expected;
@@ -535,8 +602,8 @@ static void make_scene(void)
 	ss_make(tree, ss_u(0), ss_g(0), ss_g(2));
 	ss_make(tree, ss_u(0), ss_g(2), ss_g(3));
 	ss_make(tree, ss_u(0), ss_g(0), ss_g(4));
-	ss_make(tree, ss_u(0), ss_g(0), ss_g(21));
-	for (uint64_t group = 22; group <= 28; group++)
+	ss_make(tree, ss_u(0), ss_g(0), ss_g(201));
+	for (uint64_t group = 202; group <= 216; group++)
 		ss_make(tree, ss_u(0), ss_g(group - 1), ss_g(group));
 	ss_hand_over(tree, ss_u(0), ss_g(1), ss_u(1000));
 	ss_hand_over(tree, ss_u(0), ss_g(2), ss_u(1000));
@@ -546,12 +613,39 @@ static void make_scene(void)
 	ss_admit(tree, ss_p(30), ss_u(1000));
 	ss_write_subtree_control(tree, ss_u(0), ss_g(2), (const uint8_t *)"+memory", 7);
 	ss_write_procs(tree, ss_u(0), ss_g(1), (const uint8_t *)"10", 2);
-	ss_write_procs(tree, ss_u(0), ss_g(28), (const uint8_t *)"30", 2);
+	ss_write_procs(tree, ss_u(0), ss_g(216), (const uint8_t *)"30", 2);
 	ss_write_setting(tree, ss_u(0), ss_g(1), (const uint8_t *)"memory.max", 10, (const uint8_t *)"8192", 4);
 	ss_write_setting(tree, ss_u(0), ss_g(1), (const uint8_t *)"pids.max", 8, (const uint8_t *)"1", 1);
 	for (size_t i = 0; i < SS_MAX_DEVICES; i++)
 		ss_write_setting(tree, ss_u(0), ss_g(1), (const uint8_t *)"io.max", 6, (const uint8_t *)devices[i], strlen(devices[i]));
 	ss_charge(tree, ss_p(10), 2, scene.told);
+	memset(scene.told, 0xa5, sizeof scene.told);
+}
+
+static void make_last_scene(void)
+{
+	const uint8_t *all = (const uint8_t *)"+cpu +io +memory +pids";
+	uint64_t *tree = scene.tree;
+	size_t length = 0;
+
+	memset(&scene, 0xa5, sizeof scene);
+	ss_fresh(tree, 3000);
+	for (uint64_t above = 0, group = SS_LAST_GROUP - SS_MAX_DEPTH; group <= CROWD; above = group++) {
+		ss_write_subtree_control(tree, ss_u(0), ss_g(above), all, strlen((const char *)all));
+		ss_make(tree, ss_u(0), ss_g(above), ss_g(group));
+	}
+	ss_make(tree, ss_u(0), ss_g(ABOVE), ss_g(SS_LAST_GROUP));
+	for (uint64_t process = 1; process <= SS_LAST_PROCESS; process++) {
+		char *line = listing + length;
+
+		length += (size_t)snprintf(line, sizeof listing - length, "%d\n", (int)process);
+		ss_admit(tree, ss_p(process), ss_u(1000));
+		ss_write_procs(tree, ss_u(0), ss_g(CROWD), (const uint8_t *)line, strlen(line));
+	}
+	ss_write_procs(tree, ss_u(0), ss_g(SS_LAST_GROUP), (const uint8_t *)"1", 1);
+	ss_charge(tree, ss_p(1), 1, scene.told);
+	ss_write_procs(tree, ss_u(0), ss_g(CROWD), (const uint8_t *)"1", 1);
+	ss_write_setting(tree, ss_u(0), ss_g(239), (const uint8_t *)"memory.max", 10, (const uint8_t *)"8192000", 7);
 	memset(scene.told, 0xa5, sizeof scene.told);
 }
 
@@ -651,6 +745,8 @@ static void check(const struct row *row, int changes, int is_null)
 		differs(row->shown, is_null, "memory that it was not lent differs");
 }
 
+#define COUNT(rows) (sizeof(rows) / sizeof(rows)[0])
+
 static void check_all(const struct row *rows, size_t count, int changes)
 {
 	for (size_t i = 0; i < count; i++) {
@@ -674,7 +770,7 @@ static void check_fresh(void)
 		{ "ss_fresh 2^64 - 1", MOST, SS_MAX_MACHINE_PAGES },
 	};
 
-	for (size_t i = 0; i < sizeof rows / sizeof rows[0]; i++) {
+	for (size_t i = 0; i < COUNT(rows); i++) {
 		memcpy(&lent, &scene, sizeof scene);
 		memcpy(&expected, &scene, sizeof scene);
 		memset(expected.tree, 0xff, sizeof expected.tree);
@@ -694,8 +790,11 @@ static void check_fresh(void)
 int main(void)
 {
 	make_scene();
-	check_all(same, sizeof same / sizeof same[0], 0);
-	check_all(changing, sizeof changing / sizeof changing[0], 1);
+	check_all(same, COUNT(same), 0);
+	check_all(changing, COUNT(changing), 1);
+	make_last_scene();
+	check_all(last_same, COUNT(last_same), 0);
+	check_all(last_changing, COUNT(last_changing), 1);
 	check_fresh();
 	if (failures > 0) {
 		printf("%d differences in %d calls\n", failures, calls);

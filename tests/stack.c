@@ -5,7 +5,7 @@
  *
  * A figure is the largest over many inputs: empty, deep, full and wide trees, and on each of them all
  * that can be put together of the numbers, files, lines and buffers below. So every call is accepted
- * and is refused by its checks, walks chains of nine cgroups and writes the longest texts.
+ * and is refused by its checks, walks chains of seventeen cgroups and writes the longest texts.
  */
 #include <stdio.h>
 #include <stdlib.h>
@@ -15,7 +15,7 @@
 
 #define COUNT(array) (sizeof(array) / sizeof(array)[0])
 #define BYTES(text) (const uint8_t *)(text), strlen(text)
-#define STACK_WORDS 2048
+#define STACK_WORDS 4096
 
 typedef void function(void);
 
@@ -87,11 +87,17 @@ static struct call {
 	{ "ss_first_bad_word", (function *)ss_first_bad_word, "Lt", 0, 0, 0, 0 },
 };
 
+/* The deep trees are made of the first cgroups, or of the last, as many as there are depths. */
+#define FIRST_OF_LAST (SS_LAST_GROUP - SS_MAX_DEPTH + 1)
+
 static const uint64_t users[] = { 0, 1000, UINT32_MAX };
-static const uint64_t groups[] = { 0, 1, 2, 7, 8, 9, 55, 56, 57, 62, 63, 64, UINT64_MAX };
-static const uint64_t processes[] = { 0, 1, 9, 10, 100, 255, 256, 257, UINT64_MAX };
+static const uint64_t groups[] = {
+	0, 1, 2, SS_MAX_DEPTH - 1, SS_MAX_DEPTH, SS_MAX_DEPTH + 1, FIRST_OF_LAST - 1, FIRST_OF_LAST, FIRST_OF_LAST + 1,
+	SS_LAST_GROUP - 1, SS_LAST_GROUP, SS_LAST_GROUP + 1, UINT64_MAX,
+};
+static const uint64_t processes[] = { 0, 1, 9, 10, 100, SS_LAST_PROCESS - 1, SS_LAST_PROCESS, SS_LAST_PROCESS + 1, UINT64_MAX };
 static const uint64_t pages[] = { 0, 1, SS_MAX_PAGES, SS_MAX_PAGES + 1, SS_MAX_MACHINE_PAGES, UINT64_MAX };
-static const uint64_t rooms[] = { 0, 4, 27, SS_LONGEST_REPLY };
+static const uint64_t rooms[] = { 0, 4, 67, 68, SS_LONGEST_REPLY - 1, SS_LONGEST_REPLY };
 
 static const char *const files[] = {
 	"cgroup.procs", "cgroup.controllers", "cgroup.subtree_control", "cgroup.events", "memory.current", "memory.max",
@@ -103,7 +109,7 @@ static const char *const files[] = {
 #define NO_LIMIT(number) number " rbps=max wbps=max riops=max wiops=max"
 
 static const char *const lines[] = {
-	"", "\n", "x", "0", "1", "10\n", "255", "256", "257", "max", "-1",
+	"", "\n", "x", "0", "1", "10\n", "1023", "1024", "1025", "max", "-1",
 	"4503599627370496", "4503599627370497", "18446744073709551616", "4194304", "10000", "1000000000",
 	"max 1000000", "1000000000 1000000", "1000 999", "1000 1000 1000", "1 x",
 	"0:0", "256:0", "8:16 rbps=0", "8:16 rbps=1 rbps=1", "8:16 rbps", "8:16 9:0",
@@ -229,9 +235,9 @@ static void set_all(uint64_t *t, ss_group group, const char *memory, const char 
 }
 
 /*
- * Eight cgroups one below the other, numbered from `first` on in steps, all controllers on and the
- * limits as large as they can be. All but the first are user 1000's, and in the last are so many
- * processes of his, with so many times the most pages of a charge.
+ * Cgroups one below the other to the last depth, numbered from `first` on in steps, all controllers
+ * on and the limits as large as they can be. All but the first are user 1000's, and in the last are so
+ * many processes of his, with so many times the most pages of a charge.
  */
 static void make_deep(uint64_t *t, uint64_t first, int step, uint64_t count, uint64_t charges)
 {
@@ -265,13 +271,13 @@ static void make_trees(void)
 	ss_fresh(trees[0], 1024);
 	/* Room for a process and a charge more, and a second leaf to move to, with room for a device. */
 	make_deep(deep, 1, 1, SS_LAST_PROCESS - 1, SS_MAX_MACHINE_PAGES / SS_MAX_PAGES - 1);
-	must(ss_make(deep, ss_u(0), ss_g(7), ss_g(9)));
-	must(ss_hand_over(deep, ss_u(0), ss_g(9), ss_u(1000)));
-	limit_devices(deep, ss_g(9), SS_MAX_DEVICES - 1);
-	make_deep(full, 63, -1, SS_LAST_PROCESS, SS_MAX_MACHINE_PAGES / SS_MAX_PAGES);
+	must(ss_make(deep, ss_u(0), ss_g(SS_MAX_DEPTH - 1), ss_g(SS_MAX_DEPTH + 1)));
+	must(ss_hand_over(deep, ss_u(0), ss_g(SS_MAX_DEPTH + 1), ss_u(1000)));
+	limit_devices(deep, ss_g(SS_MAX_DEPTH + 1), SS_MAX_DEVICES - 1);
+	make_deep(full, SS_LAST_GROUP, -1, SS_LAST_PROCESS, SS_MAX_MACHINE_PAGES / SS_MAX_PAGES);
 	/* No room in the last but one that is asked. */
-	make_deep(tight, 56, 1, SS_LAST_PROCESS - 1, 1);
-	set_all(tight, ss_g(56), "0", "0");
+	make_deep(tight, FIRST_OF_LAST, 1, SS_LAST_PROCESS - 1, 1);
+	set_all(tight, ss_g(FIRST_OF_LAST), "0", "0");
 	ss_fresh(wide, 1024);
 	must(ss_write_subtree_control(wide, ss_u(0), ss_g(0), BYTES("+cpu +io +memory +pids")));
 	for (uint64_t group = 1; group <= SS_LAST_GROUP; group++) {

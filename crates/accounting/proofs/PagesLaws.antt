@@ -21,7 +21,7 @@ use Rattle.tree.specs.Counters.{Adjustable}
 use Rattle.tree.specs.Kept.{countOf, Settled, Kept, KeptAt}
 use Rattle.tree.specs.Calling.{Applied}
 use Rattle.tree.specs.declared.sum.Counter.{Counter}
-use Rattle.tree.specs.declared.sum.Counter.the-variants.{Of, Children}
+use Rattle.tree.specs.declared.sum.Counter.the-variants.{Of, Children, Members}
 use Rattle.tree.proofs.KeptLaws.{own-small, adjustable}
 use Rattle.tree.proofs.AdjustLaws.{counters-apart}
 use Rattle.tree.proofs.CountLaws.{children-same}
@@ -84,6 +84,8 @@ module _ (xs : List ℕ) (g n m : ℕ) (p : PagesAdjustable xs g n m) where
         wrote .sums (Of Processes) a ∙ adjusted .other (Of Processes) (counters-apart (Of Processes) (Of Pages) (λ e. omega arith)) a
         ∙ p .home .kept .sums (Of Processes) a
         ∙ sym (population-same (cores (view xs)) (cores (pagesSet (view xs) g n m)) (places (view xs)) (kept-by (λ x. x .core .parent) refl) a)
+    sums-after Members a =
+        wrote .sums Members a ∙ adjusted .other Members (counters-apart Members (Of Pages) (λ e. omega arith)) a ∙ p .home .kept .sums Members a
     sums-after Children a =
         wrote .sums Children a ∙ adjusted .other Children (counters-apart Children (Of Pages) (λ e. omega arith)) a
         ∙ p .home .kept .sums Children a

@@ -16,7 +16,13 @@ use Rattle.lines.specs.declared.control.Wish.the-variants.{Keep, Enable, Disabl
 use Rattle.control.specs.Flags.{asksOf, flagOf, forEach, joinsPopulated}
 use Rattle.control.specs.declared.flags.Flags.{Flags}
 
--- ---- two tests, of which the second is asked first
+-- ---- two tests, of which the first or the second is asked first
+
+pub holds-not : (a b : Bool) → a ≡ false → false ≡ (a && b)
+holds-not a b e = rw e
+
+pub holds-then : (a b d : Bool) → a ≡ true → d ≡ b → d ≡ (a && b)
+holds-then a b d e f = rw e f
 
 module _ (a b : Bool) where
   pub last-not : b ≡ false → false ≡ (a && b)
@@ -94,19 +100,20 @@ module _ (f : Flags) where
 
 -- ---- a test of each controller, by what the wishes or the line ask
 
+pub flag-each : (f : Flags) (test : Controller → Bool) → f .cpu ≡ test Cpu → f .io ≡ test Io → f .memory ≡ test Memory
+    → f .pids ≡ test Pids → (c : Controller) → flagOf f c ≡ test c
+flag-each f test cpu io memory pids Cpu = cpu
+flag-each f test cpu io memory pids Io = io
+flag-each f test cpu io memory pids Memory = memory
+flag-each f test cpu io memory pids Pids = pids
+
 module _ (w : Wishes) (test : Controller → Ask → Bool) (f : Flags) (e : f ≡ forEach test w) where
   pub any-wished : (r : Bool) → r ≡ anyController (flagOf f) → r ≡ anyController (λ c. test c (asksOf w c))
   unfolding anyIn
   any-wished r h = h ∙ ap (λ x. anyController (flagOf x)) e
 
   flag-wished : (c : Controller) → flagOf f c ≡ test c (asksOf w c)
-  flag-wished c = ap (λ x. flagOf x c) e ∙ go c
-    where
-      go : (c : Controller) → flagOf (forEach test w) c ≡ test c (asksOf w c)
-      go Cpu = refl
-      go Io = refl
-      go Memory = refl
-      go Pids = refl
+  flag-wished c = ap (λ x. flagOf x c) e ∙ flag-each (forEach test w) (λ k. test k (asksOf w k)) refl refl refl refl c
 
 module _ (line : List ℕ) (w : Wishes) (k : AsksOf line w) where
   ask-same : (c : Controller) → asksOf w c ≡ asked line c

@@ -14,12 +14,14 @@ use Rattle.model.specs.Sizes.{groups}
 use Rattle.model.specs.Tree.{Tree, Core, Group, Controls, defaultCpu, withCpu, withIo, withAmounts, withLimit, withSet, withSettings, settingsOf, cores, lives}
 use Rattle.model.specs.Devices.{DeviceLimits}
 use Rattle.model.specs.Hierarchy.{childOf}
+use Rattle.model.specs.Control.{anyController}
 use Rattle.model.specs.Settings.{reset}
 use Rattle.model.specs.Effects.{resetChild, controlled}
 use Rattle.model.specs.declared.Resource.{Resource}
 use Rattle.model.specs.declared.Resource.the-variants.{Pages, Processes}
 use Rattle.model.specs.declared.Limit.the-variants.{NoLimit}
 use Rattle.model.proofs.FunctionLaws.{split, whether, upd-same, upd-other, upd-keeps}
+use Rattle.model.proofs.ControlLaws.{any-controller-none}
 use Rattle.model.proofs.ControlPreservation.{child-live, reset-child, reset-other}
 use Rattle.devices.specs.Slots.{tableOf, Packed, rows, noSlots}
 use Rattle.devices.specs.declared.table.Slots.{Slots}
@@ -173,6 +175,20 @@ module _ (xs : List ℕ) (g : ℕ) (gone : Controls) where
           split (childOf g k (cores (view xs) k))
           (λ y. absurd (omega (arith, q .range k (child-live g k (cores (view xs) k) y))))
           (λ no-one. no-one)
+
+  -- where none is gone no group changes
+  pub reset-none : length xs ≡ treeWords → anyController gone ≡ false → Wrote xs xs (childrenReset (view xs) g gone)
+  unfolding reset
+  reset-none l n = record { long = l; tree = same-groups (view xs) (λ k. sym (same k)); sums = λ c h. refl; spare = λ s. s }
+    where
+      unchanged : (v : Group) → withSettings (reset gone (settingsOf v)) v ≡ v
+      unchanged v = ap (λ (f : Controls). withSettings (reset f (settingsOf v)) v) (fun-ext (any-controller-none gone n))
+
+      same : (k : ℕ) → after k ≡ view xs .group k
+      same k =
+          split (childOf g k (cores (view xs) k))
+          (λ y. reset-child (view xs) g gone k (view xs .group k) y ∙ unchanged (view xs .group k))
+          (λ o. reset-other (view xs) g gone k (view xs .group k) o)
 
 -- ---- the set, and then the children
 

@@ -6,14 +6,13 @@ ghost use Rattle.model.specs.Control.{anyController};
 ghost use Rattle.lines.specs.Control.{askOf};
 ghost use Rattle.tree.specs.Layout.{view};
 ghost use Rattle.tree.specs.Counters.{HasParent};
-ghost use Rattle.control.specs.Flags.{setAt, absentAt, joinsAt, leavesAt, heldAt, testAt, flagOf, forEach};
+ghost use Rattle.control.specs.Flags.{setAt, absentAt, joinsAt, leavesAt, testAt, flagOf, forEach};
 use lines::control::Wish;
 use lines::control::Wishes;
 use model::Controller;
 use model::GroupId;
 use tree::group::has;
 use tree::layout::Tree;
-use tree::rule::held_by_child;
 use tree::rule::is_available;
 
 // A flag for each controller.
@@ -30,7 +29,6 @@ pub enum Test {
     Absent, // wanted, and the group may not have it
     Joining, // joins the set
     Leaving, // leaves the set
-    Held, // leaves, and a child has it in its set
 }
 
 // Whether some flag is set.
@@ -99,17 +97,6 @@ fn is_leaving(t: &Tree, g: GroupId, c: Controller, wish: Wish) -> bool
     }
 }
 
-// Whether a controller leaves that a child has in its set. The children are asked only where it leaves.
-fn is_held(t: &Tree, g: GroupId, c: Controller, wish: Wish) -> bool
-    requires { ⌜ g .0 < groups ⌝ }
-    ensures { λ r. ⌜ r ≡ heldAt (view (now (t .entry))) (g .0) c (askOf wish) ⌝ }
-{
-    if !is_leaving(t, g, c, wish) {
-        return false;
-    }
-    held_by_child(t, g, c)
-}
-
 // What a test says of one controller.
 fn passes(t: &Tree, g: GroupId, c: Controller, wish: Wish, test: Test) -> bool
     requires { ⌜ HasParent (now t) (g .0) ⌝ }
@@ -120,7 +107,6 @@ fn passes(t: &Tree, g: GroupId, c: Controller, wish: Wish, test: Test) -> bool
         Test::Absent => is_absent(t, g, c, wish),
         Test::Joining => is_joining(t, g, c, wish),
         Test::Leaving => is_leaving(t, g, c, wish),
-        Test::Held => is_held(t, g, c, wish),
     }
 }
 

@@ -5,6 +5,7 @@ ghost use Rattle.tree.specs.Changes.{GroupRow, Wrote};
 ghost use Rattle.control.specs.Flags.{flagOf};
 ghost use Rattle.control.specs.Stores.{changedAt, cpuReset, ioReset, limitReset, Ranged, childReset, childrenReset};
 use super::flags::Flags;
+use super::flags::is_any;
 use devices::table::empty;
 use model::GroupId;
 use model::Limit;
@@ -78,11 +79,14 @@ fn reset_children(t: &mut Tree, g: GroupId, gone: Flags)
     }
 }
 
-// The set of g, and the settings of the controllers that are gone from it.
+// The set of g, and the settings of the controllers that are gone from it. No pass over the groups where none is gone.
 pub fn set_and_reset(t: &mut Tree, g: GroupId, set: Flags, gone: Flags)
     requires { ⌜ Ranged (now t) × GroupRow (now t) (g .0) ⌝ }
     ensures { λ _. ⌜ Wrote (now (t .entry)) (now (t .exit)) (controlled (view (now (t .entry))) (g .0) (flagOf set) (flagOf gone)) ⌝ }
 {
     set_controls(t, g, set.cpu, set.io, set.memory, set.pids);
+    if !is_any(gone) {
+        return;
+    }
     reset_children(t, g, gone);
 }

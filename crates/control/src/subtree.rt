@@ -2,13 +2,13 @@
 ghost use mathlib.Core.Path.{_≡_};
 ghost use Rattle.model.specs.Calls.{verdict, writeControl};
 ghost use Rattle.tree.specs.Layout.{view};
-ghost use Rattle.tree.specs.Counters.{HasParent};
-ghost use Rattle.tree.specs.Kept.{Kept};
+ghost use Rattle.tree.specs.Kept.{Kept, KeptAt};
 ghost use Rattle.tree.specs.Calling.{Called};
 ghost use Rattle.control.specs.Flags.{asksOf, joinsPopulated};
 use super::flags::Test;
 use super::flags::for_each;
 use super::flags::is_any;
+use super::held::is_any_held;
 use super::reset::set_and_reset;
 use lines::control::Wishes;
 use lines::control::asks;
@@ -25,7 +25,7 @@ use tree::rule::may_write;
 
 // The inner-process rule: whether a controller joins the set of a group other than the root that holds a process.
 fn joins_populated(t: &Tree, g: GroupId, wishes: Wishes) -> bool
-    requires { ⌜ HasParent (now t) (g .0) ⌝ }
+    requires { ⌜ KeptAt (now t) (g .0) ⌝ }
     ensures { λ r. ⌜ r ≡ joinsPopulated (view (now (t .entry))) (g .0) (asksOf wishes) ⌝ }
 {
     if g.0 == 0 {
@@ -62,7 +62,7 @@ fn vet_control(tree: &Tree, user: u32, group: GroupId, line: &[u8]) -> Answer
     if is_any(for_each(tree, group, wishes, Test::Absent)) {
         return Answer::Refused(Errno::Enoent);
     }
-    if is_any(for_each(tree, group, wishes, Test::Held)) {
+    if is_any_held(tree, group, for_each(tree, group, wishes, Test::Leaving)) {
         return Answer::Refused(Errno::Ebusy);
     }
     if joins_populated(tree, group, wishes) {

@@ -170,6 +170,8 @@ demand-2-of-the-code =
           (firstBadWord (now s), record { first = f; block = p .block; offset = p .offset; word = p .bytes ∙ f .own });
       shown = delivered-file;
       standing = delivered-line;
+      listingFits = λ {xs} {buffer = buffer} g k a h e. demands .second .lengths (view xs) (k .formed) .listingFits g buffer h (sym (a .answer) ∙ e);
+      lineFits = λ {xs} {buffer = buffer} p k a h e. demands .second .lengths (view xs) (k .formed) .lineFits p buffer h (sym (a .answer) ∙ e);
       back = λ user g s k a z told may. shown-back g s k a z told user may;
       contained = contained-run;
       fresh = λ {m} {xs} z user d nz.

@@ -1,5 +1,6 @@
 -- Demand 2 of the code, from the contracts alone: exactly when; what charge and fork tell; when a device is a fifth; what a line
--- of a limit leaves; the question about a control line; texts delivered and written back; containment. Assumes nothing.
+-- of a limit leaves; the question about a control line; texts delivered, how long a buffer has to be for two of them, and what is
+-- written back; containment. Assumes nothing.
 use Prim.Native.Nat.{ℕ, suc, _+_, _≤_}
 use mathlib.Core.Bool.{true}
 use mathlib.Core.List.{List, [], _∷_}
@@ -9,12 +10,12 @@ use mathlib.Core.Path.{_≡_}
 use lib.ListN.{length, take}
 use denote.Ref.{RefT, ptr, now}
 use Rattle.model.specs.Functions.{All}
-use Rattle.model.specs.Sizes.{longestShown}
+use Rattle.model.specs.Sizes.{longestListing, longestMembership, longestShown}
 use Rattle.model.specs.Checks.{errnoNumber, answerNumber, Says}
 use Rattle.model.specs.Tree.{Tree, lives, parents, depths}
 use Rattle.model.specs.Hierarchy.{factsOf}
 use Rattle.model.specs.Text.{linesOf, lineWords, oneWord, body}
-use Rattle.model.specs.Names.{settingName}
+use Rattle.model.specs.Names.{settingName, fileName}
 use Rattle.model.specs.Control.{Part, firstBadWord}
 use Rattle.model.specs.Figures.{limitWord}
 use Rattle.model.specs.Words.{cut, FirstBad}
@@ -32,6 +33,7 @@ use Rattle.model.specs.declared.Resource.{Resource}
 use Rattle.model.specs.declared.Limit.{Limit}
 use Rattle.model.specs.declared.Setting.{Setting}
 use Rattle.model.specs.declared.Setting.the-variants.{IoMax, Max}
+use Rattle.model.specs.declared.File.the-variants.{Procs}
 use Rattle.model.specs.declared.Answer.{Answer}
 use Rattle.tree.specs.Layout.{view}
 use Rattle.tree.specs.Kept.{Kept, Fresh}
@@ -95,6 +97,11 @@ pub record Demand2 : Type 0 where
       → Told (reply (view xs) (read g file buffer)) told bytes → FindsText (fileText (factsOf (view xs)) g file) buffer told bytes
   pub standing : {xs ys buffer told bytes : List ℕ} {n : ℕ} (p : ℕ) → Answered xs ys (membership p buffer) n → n ≡ 0
       → Told (reply (view xs) (membership p buffer)) told bytes → FindsText (membershipLine (view xs) p) buffer told bytes
+  -- order 4: a buffer as long as the longest text is never too short
+  pub listingFits : {xs ys buffer : List ℕ} {n : ℕ} (g : ℕ) → Kept xs → Answered xs ys (read g (fileName Procs) buffer) n
+      → longestListing ≤ length buffer → n ≢ 28
+  pub lineFits : {xs ys buffer : List ℕ} {n : ℕ} (p : ℕ) → Kept xs → Answered xs ys (membership p buffer) n
+      → longestMembership ≤ length buffer → n ≢ 28
   -- "What a settings file shows can be written back by whoever may write it, and changes nothing": the first k bytes of what a
   -- read delivered, on the words that it read
   pub back : {xs : List ℕ} {n k : ℕ} {buffer bytes : List ℕ} (user g : ℕ) (s : Setting) → Kept xs

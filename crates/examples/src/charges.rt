@@ -80,8 +80,8 @@ fn forks(tree: &mut Tree)
 {
     fork(tree, 5, 6);
     fork(tree, 5, 7);
-    fork(tree, 9, 257);
-    fork(tree, 5, 257);
+    fork(tree, 9, 1025);
+    fork(tree, 5, 1025);
     fork(tree, 5, 6);
 }
 

@@ -1,9 +1,11 @@
-// Evenings about the hierarchy: control sets, moves and depths.
+// Evenings about the hierarchy: control sets, moves, depths, and the last numbers.
 ghost use Rattle.tree.specs.Kept.{Kept};
 use super::line_calls::write_procs;
 use super::line_calls::write_subtree_control;
+use super::reply_calls::membership_into;
 use super::reply_calls::read;
 use super::tree_calls::admit;
+use super::tree_calls::charge;
 use super::tree_calls::fresh_tree;
 use super::tree_calls::hand_over;
 use super::tree_calls::make;
@@ -49,15 +51,57 @@ pub(crate) fn p10() {
     write_procs(&mut tree, 1000, 4, 9);
 }
 
+// Eight levels, and eight more below them.
+fn upper_levels(tree: &mut Tree)
+    requires { ⌜ Kept (now tree) ⌝ }
+    ensures { λ _. ⌜ Kept (now (tree .exit)) ⌝ }
+{
+    make(tree, 0, 0, 1);
+    make(tree, 0, 1, 2);
+    make(tree, 0, 2, 3);
+    make(tree, 0, 3, 4);
+    make(tree, 0, 4, 5);
+    make(tree, 0, 5, 6);
+    make(tree, 0, 6, 7);
+    make(tree, 0, 7, 8);
+}
+
+fn lower_levels(tree: &mut Tree)
+    requires { ⌜ Kept (now tree) ⌝ }
+    ensures { λ _. ⌜ Kept (now (tree .exit)) ⌝ }
+{
+    make(tree, 0, 8, 9);
+    make(tree, 0, 9, 10);
+    make(tree, 0, 10, 11);
+    make(tree, 0, 11, 12);
+    make(tree, 0, 12, 13);
+    make(tree, 0, 13, 14);
+    make(tree, 0, 14, 15);
+    make(tree, 0, 15, 16);
+}
+
 pub(crate) fn depths() {
     let mut tree = fresh_tree(1024);
-    make(&mut tree, 0, 0, 1);
-    make(&mut tree, 0, 1, 2);
-    make(&mut tree, 0, 2, 3);
-    make(&mut tree, 0, 3, 4);
-    make(&mut tree, 0, 4, 5);
-    make(&mut tree, 0, 5, 6);
-    make(&mut tree, 0, 6, 7);
-    make(&mut tree, 0, 7, 8);
-    make(&mut tree, 0, 8, 9);
+    upper_levels(&mut tree);
+    lower_levels(&mut tree);
+    make(&mut tree, 0, 16, 17);
+    admit(&mut tree, 5, 0);
+    write_procs(&mut tree, 0, 16, 5);
+    charge(&mut tree, 5, 1);
+    membership_into(&tree, 5, &mut [b'.'; 43]);
+}
+
+// Order 4: the last numbers, and the first that are out of range.
+pub(crate) fn last_numbers() {
+    let mut tree = fresh_tree(1024);
+    make(&mut tree, 0, 0, 255);
+    make(&mut tree, 0, 0, 256);
+    admit(&mut tree, 1024, 0);
+    admit(&mut tree, 1025, 0);
+    write_procs(&mut tree, 0, 256, 1024);
+    write_procs(&mut tree, 0, 255, 1025);
+    write_procs(&mut tree, 0, 255, 1024);
+    membership_into(&tree, 1024, &mut [b'.'; 8]);
+    read(&tree, 255, b"cgroup.procs");
+    read(&tree, 256, b"cgroup.procs");
 }

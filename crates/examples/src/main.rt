@@ -8,7 +8,7 @@ mod often; // calls that evenings make often
 mod charges; // P1 to P5, and the groups consulted
 mod settings; // P6 to P8, and order 2
 mod devices; // io.max of order 1
-mod hierarchy; // P9, P10, and depths
+mod hierarchy; // P9, P10, depths, and the last numbers of order 4
 mod texts; // P11, whole replies, and bad words
 mod slips; // what is right where a slip looks right
 
@@ -34,7 +34,7 @@ fn marked() {
 fn others() {
     heading(b"Whole reply: the text at the front of the buffer, or nothing");
     texts::whole_replies();
-    heading(b"Make under depth 7 passes, under depth 8 is 11");
+    heading(b"Make under depth 15 passes, under depth 16 is 11");
     hierarchy::depths();
     heading(b"Charge and fork tell the first group without room, and the groups consulted");
     charges::consulted();
@@ -48,6 +48,8 @@ fn ordered() {
     devices::of_a_group();
     heading(b"Order 2: memory.max drops odd bytes, and less than a page refuses every charge");
     settings::odd_bytes();
+    heading(b"Order 4: groups 0 to 255, processes 1 to 1024");
+    hierarchy::last_numbers();
 }
 
 // The slips that look right, but for the common ancestor, which is P10.

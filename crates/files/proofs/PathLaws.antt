@@ -1,5 +1,4 @@
--- Laws of paths and membership lines: a path by the parent's, its length, and that more steps than the depth change
--- nothing. Assumes nothing.
+-- Laws of paths and membership lines: a path by the parent's, and that more steps than the depth change nothing. Assumes nothing.
 use Prim.Native.Nat.{ℕ, zero, suc, _+_, _-_, _*_, _≤_, _<_}
 use native.Mathlib.Numerals.{sub-one}
 use native.Mathlib.Omega.{arith}
@@ -15,24 +14,11 @@ use Rattle.model.specs.Text.{bytes, newline, decimal}
 use Rattle.model.specs.Files.{path, membershipLine}
 use Rattle.model.specs.WellFormed.{Sound}
 use Rattle.model.proofs.FunctionLaws.{whether}
-use Rattle.model.proofs.DecimalLaws.{length-decimal}
+use Rattle.model.proofs.LengthLaws.{path-root, path-up, length-path}
 use Rattle.model.proofs.AmountLaws.{place-live}
 use Rattle.tree.specs.Layout.{view}
 use Rattle.tree.specs.Kept.{Kept, KeptAt}
 use Rattle.files.specs.Texts.{longestPath, placePath, HasPath}
-
-path-root : (up : ℕ → ℕ) (n g : ℕ) → g ≡ 0 → path up n g ≡ []
-unfolding path
-path-root up zero g e = refl
-path-root up (suc n) g e = rw (eq-eqb g 0 e)
-
-pub path-none : (up : ℕ → ℕ) (deep g : ℕ) → deep ≡ 0 → [] ≡ path up deep g
-unfolding path
-path-none up deep g e = rw e
-
-path-up : (up : ℕ → ℕ) (n g : ℕ) → g ≢ 0 → path up (suc n) g ≡ path up n (up g) ++ (bytes "/" ++ decimal g)
-unfolding path
-path-up up n g ne = rw (ne-eqb g 0 ne)
 
 module _ {live : ℕ → Bool} {up depth : ℕ → ℕ} (s : Sound live up depth) where
   -- steps enough are enough
@@ -57,20 +43,6 @@ module _ {live : ℕ → Bool} {up depth : ℕ → ℕ} (s : Sound live up depth
 
   path-depth : (g : ℕ) → live g ≡ true → path up (depth g) g ≡ path up deepest g
   path-depth g l = path-alike (depth g) deepest g l (omega arith) (s .shallow g l)
-
-  -- two digits and a "/" for each group on it
-  length-path : (n g : ℕ) → live g ≡ true → length (path up n g) ≤ n * 3
-  length-path zero g l = rw (← path-none up zero g refl) (omega arith)
-  length-path (suc n) g l =
-      whether g 0
-      (λ e. rw (path-root up (suc n) g e) (omega arith))
-      (λ ne.
-      rw (path-up up n g ne, length-append)
-      (omega (
-        arith,
-        length-path n (up g) (s .above g l ne),
-        length-decimal g 2 (omega (arith, s .range g l)) (omega arith),
-      )))
 
   module _ (g deep p : ℕ) (l : live g ≡ true) (d : deep ≡ depth g) (nz : deep ≢ 0) (e : p ≡ up g) where
     -- a group of some depth is not the root

@@ -7,7 +7,7 @@ use mathlib.Core.Path.{_≡_}
 use lib.Dec.{eqb}
 use lib.ListN.{length}
 use Rattle.model.specs.Functions.{pick}
-use Rattle.model.specs.Sizes.{processes, deepest, mostDevices, longestShown}
+use Rattle.model.specs.Sizes.{deepest, longestMembership, mostDevices, longestShown}
 use Rattle.model.specs.Tree.{Tree, isLive, parents, depths, places}
 use Rattle.model.specs.Text.{bytes, newline, space, ended}
 use Rattle.model.specs.Settings.{limitText, shownDevice, valueText}
@@ -23,21 +23,17 @@ use Rattle.text.specs.Write.{Appended, Delivers}
 use Rattle.tree.specs.Layout.{view}
 use Rattle.tree.specs.Kept.{Kept, KeptAt}
 
--- cgroup.procs is no longer: a line of it has four bytes at most
-abbrev pub longestListing : ℕ
-longestListing = processes * 4
-
--- nor is io.max: a line for each device
+-- io.max is no longer: a line for each device
 abbrev pub longestDevices : ℕ
 longestDevices = mostDevices * longestShown
 
--- nor is any other file
+-- nor is any other file but cgroup.procs
 abbrev pub longestOther : ℕ
 longestOther = 128
 
--- no path is longer: two digits and a "/" for each group on it
+-- no path is longer: three digits and a "/" for each group on it
 abbrev pub longestPath : ℕ
-longestPath = deepest * 3
+longestPath = deepest * 4
 
 -- every file but the two that can be longer
 pub record Short (file : File) : Type 0 where
@@ -67,7 +63,7 @@ pub record HasPath (xs : List ℕ) (g deep : ℕ) (out : List ℕ) (at : ℕ) : 
 pub record HasLine (xs : List ℕ) (p : ℕ) (out : List ℕ) : Type 0 where
   pub kept : Kept xs
   pub live : isLive (places (view xs) p) ≡ true
-  pub room : longestPath + 4 ≤ length out
+  pub room : longestMembership ≤ length out
 
 -- the path as a membership line shows it
 abbrev pub placePath : Tree → ℕ → List ℕ

@@ -37,9 +37,9 @@ use tree::rule::is_on;
 use tree::setting::controller_of;
 use tree::setting::setting_controller;
 
-// The longest text of cgroup.procs: every process number, each a line of four bytes at most. The arrays for the other files are
-// smaller, and so cleared sooner.
-const LONGEST_LISTING: usize = PROCESSES as usize * 4;
+// The longest text of cgroup.procs: a line for every process number. The arrays for the other files are smaller, and so cleared
+// sooner.
+const LONGEST_LISTING: usize = 4013;
 
 // The longest text of io.max: a line for each device that a group holds, of 97 bytes at most and a newline.
 const MOST_DEVICES: usize = 4;
@@ -50,8 +50,8 @@ const LONGEST_DEVICES: usize = MOST_DEVICES * LONGEST_SHOWN;
 
 const LONGEST_OTHER: usize = 128;
 
-// The longest membership line: "0::", for each level a number of two digits at most after "/", and a newline.
-const LONGEST_MEMBERSHIP: usize = DEEPEST as usize * 3 + 4;
+// The longest membership line: "0::", for each level a number of three digits at most after "/", and a newline.
+const LONGEST_MEMBERSHIP: usize = DEEPEST as usize * 4 + 4;
 
 // Whether a group has the file.
 fn is_present(t: &Tree, g: GroupId, file: File) -> bool
@@ -84,6 +84,7 @@ fn render(t: &Tree, g: GroupId, file: File, out: &mut [u8]) -> usize
 }
 
 fn read_procs(t: &Tree, g: GroupId, reply: &mut [u8]) -> ReadAnswer
+    requires { ⌜ KeptAt (now t) (g .0) ⌝ }
     ensures { λ r. ⌜ DeliversFile (now (t .entry)) (g .0) File.Procs (now (reply .entry)) r (now (reply .exit)) ⌝ }
 {
     let mut scratch = [0u8; LONGEST_LISTING];

@@ -27,11 +27,12 @@ use Rattle.tree.specs.Counters.{Countable}
 use Rattle.tree.specs.Kept.{children, countOf, Kept}
 use Rattle.tree.specs.Calling.{Applied}
 use Rattle.tree.specs.declared.sum.Counter.{Counter}
-use Rattle.tree.specs.declared.sum.Counter.the-variants.{Of, Children}
+use Rattle.tree.specs.declared.sum.Counter.the-variants.{Of, Children, Members}
+use Rattle.tree.proofs.AdjustLaws.{sum-adjusted-at}
 use Rattle.tree.proofs.KeptLaws.{countable}
 use Rattle.tree.proofs.CountLaws.{children-after-make}
 use Rattle.tree.proofs.CallLaws.{applied}
-use Rattle.groups.proofs.ChildLaws.{children-apart, children-adjusted}
+use Rattle.groups.proofs.ChildLaws.{children-apart, members-apart}
 
 -- what the checks say where all pass
 pub record Makeable (t : Tree) (parent new : ℕ) : Type 0 where
@@ -86,7 +87,7 @@ module _ (xs : List ℕ) (k : Kept xs) (user parent new : ℕ) (v : verdict (vie
   count-above zs d depth a =
       omega (
         arith,
-        children-adjusted xs zs parent 1 0 d (omega arith) a,
+        sum-adjusted-at xs zs Children parent 1 0 d (omega arith) a,
         weigh-zero (eqb parent a),
         k .sums Children a,
         children-made depth a,
@@ -109,3 +110,4 @@ module _ (xs : List ℕ) (k : Kept xs) (user parent new : ℕ) (v : verdict (vie
       counted : (depth : ℕ) (c : Counter) (a : ℕ) → sumIn zs c a ≡ countOf (cores (made depth)) (places (view xs)) c a
       counted depth (Of r) a = j .other (Of r) (children-apart r) a ∙ k .sums (Of r) a ∙ sym (amount-same depth r a)
       counted depth Children a = count-above zs j depth a
+      counted depth Members a = j .other Members members-apart a ∙ k .sums Members a

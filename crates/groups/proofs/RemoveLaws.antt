@@ -29,11 +29,12 @@ use Rattle.tree.specs.Counters.{Countable}
 use Rattle.tree.specs.Kept.{children, countOf, Kept}
 use Rattle.tree.specs.Calling.{Applied}
 use Rattle.tree.specs.declared.sum.Counter.{Counter}
-use Rattle.tree.specs.declared.sum.Counter.the-variants.{Of, Children}
+use Rattle.tree.specs.declared.sum.Counter.the-variants.{Of, Children, Members}
+use Rattle.tree.proofs.AdjustLaws.{sum-adjusted-at}
 use Rattle.tree.proofs.KeptLaws.{parent-low, own-small, countable}
 use Rattle.tree.proofs.CountLaws.{count-dead, child-counted, children-after-remove}
 use Rattle.tree.proofs.CallLaws.{applied}
-use Rattle.groups.proofs.ChildLaws.{children-apart, children-adjusted}
+use Rattle.groups.proofs.ChildLaws.{children-apart, members-apart}
 
 -- what the checks say where all pass
 record Removable (t : Tree) (g : ℕ) : Type 0 where
@@ -118,7 +119,7 @@ module _ (xs : List ℕ) (k : Kept xs) (user g : ℕ) (v : verdict (view xs) (re
       (here .live) (here .nonroot) (here .childless g (here .live) (here .nonroot)) refl refl a in
       omega (
         arith,
-        children-adjusted xs us h 0 1 d (remove-countable h 1 refl (omega arith) .enough) a,
+        sum-adjusted-at xs us Children h 0 1 d (remove-countable h 1 refl (omega arith) .enough) a,
         weigh-zero (eqb h a),
         k .sums Children a,
         less,
@@ -129,6 +130,7 @@ module _ (xs : List ℕ) (k : Kept xs) (user g : ℕ) (v : verdict (view xs) (re
       → sumIn us c a ≡ countOf (cores (removed (view xs) g)) (places (view xs)) c a
   counted us d (Of r) a ne = d .other (Of r) (children-apart r) a ∙ k .sums (Of r) a ∙ sym (amount-same r a ne)
   counted us d Children a ne = count-above us d a
+  counted us d Members a ne = d .other Members members-apart a ∙ k .sums Members a
 
   pub applied-remove : (us zs ys : List ℕ) (p m n : ℕ) → p ≡ parents (view xs) g → m ≡ view xs .group p .core .own → n ≡ view xs .group g .core .own
       → AdjustedAt xs us Children p 0 1 → Wrote us zs (ownSet (view us) p (m + n)) → Cleared zs ys (atGroup (view zs) g noGroup) g

@@ -1,17 +1,13 @@
 // Document 01, "Remove". The group's own row says whether anything is in it, and only its parent's changes with it.
-ghost use mathlib.Core.Bool.{false};
 ghost use mathlib.Core.Path.{_≡_};
-ghost use Rattle.model.specs.Rules.{hasChild, hasProcess};
 ghost use Rattle.model.specs.Calls.{remove, verdict};
 ghost use Rattle.tree.specs.Layout.{view};
-ghost use Rattle.tree.specs.Kept.{Kept, KeptAt};
+ghost use Rattle.tree.specs.Kept.{Kept};
 ghost use Rattle.tree.specs.Calling.{Called};
 use model::Answer;
 use model::Errno;
 use model::GroupId;
-use model::Resource;
 use tree::counter::adjust;
-use tree::counter::count;
 use tree::group::clear_group;
 use tree::group::is_live;
 use tree::group::own;
@@ -19,24 +15,10 @@ use tree::group::parent;
 use tree::group::set_own;
 use tree::layout::GROUPS;
 use tree::layout::Tree;
+use tree::rule::has_child;
+use tree::rule::has_process;
 use tree::rule::may_write;
 use tree::sum::Counter;
-
-// Whether a group has a live child: they are counted in its row.
-fn has_child(t: &Tree, g: GroupId) -> bool
-    requires { ⌜ KeptAt (now t) (g .0) ⌝ }
-    ensures { λ r. ⌜ r ≡ hasChild (view (now (t .entry))) (g .0) ⌝ }
-{
-    count(t, g, Counter::Children) != 0
-}
-
-// Whether a live process stands in a group that has no live child: whatever is inside stands in it, and is counted there.
-fn is_populated(t: &Tree, g: GroupId) -> bool
-    requires { ⌜ KeptAt (now t) (g .0) × (hasChild (view (now t)) (g .0) ≡ false) ⌝ }
-    ensures { λ r. ⌜ r ≡ hasProcess (view (now (t .entry))) (g .0) ⌝ }
-{
-    count(t, g, Counter::Of(Resource::Processes)) != 0
-}
 
 // 22 the number out of range; 2 not live; 13 the user may not write the parent; 16 the root, or a live child or a live process in
 // the group. The root's parent is the root itself, whose owner is user 0.
@@ -59,7 +41,7 @@ fn vet_remove(tree: &Tree, user: u32, group: GroupId) -> Answer
     if has_child(tree, group) {
         return Answer::Refused(Errno::Ebusy);
     }
-    if is_populated(tree, group) {
+    if has_process(tree, group) {
         return Answer::Refused(Errno::Ebusy);
     }
     Answer::Done

@@ -43,6 +43,7 @@ pub mod Containment
 pub mod OwnsInside
 pub mod Totals
 pub mod Counts
+pub mod LengthLaws
 pub mod Demands
 pub mod Slips
 pub mod Worked

@@ -36,6 +36,7 @@ use Rattle.model.specs.DeviceForm.{DeviceForm}
 use Rattle.model.specs.DeviceRules.{DeviceRules}
 use Rattle.model.specs.DeviceBook.{noAccount, accountOf, accountAfter, Accounted}
 use Rattle.model.specs.DeviceReplies.{DeviceRefusal, DeviceReading}
+use Rattle.model.specs.Lengths.{Lengths, ListingReached}
 use Rattle.model.specs.declared.Resource.{Resource}
 use Rattle.model.specs.declared.Resource.the-variants.{Pages, Processes}
 use Rattle.model.specs.declared.Limit.{Limit}
@@ -172,6 +173,9 @@ pub record Demand2 : Type 0 where
   pub oneKind : (t : Tree) → WellFormed t → OneKind t
   pub never : (t : Tree) → WellFormed t → NeverAcross t
   pub question : (line : List ℕ) → Question line
+  -- order 4: how long cgroup.procs and a membership line get (specs/Lengths.antt)
+  pub lengths : (t : Tree) → WellFormed t → Lengths t
+  pub listingReached : ListingReached
 
 -- Demand 3.
 -- "tree and book are alike in live groups, parents, own pages, usage, both limits, each live process's group and the live

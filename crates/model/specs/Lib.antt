@@ -28,9 +28,10 @@ pub mod DeviceForm
 pub mod DeviceRules
 pub mod DeviceBook
 pub mod DeviceReplies
+pub mod Lengths
 pub mod Demands
 pub mod Worked
-pub mod Meetings
 pub mod Refusals
+pub mod Meetings
 pub mod Outcomes
 pub mod DeviceEvenings

@@ -9,7 +9,7 @@ use lib.ListN.{length, replicate}
 use Rattle.model.specs.Text.{bytes}
 use Rattle.model.specs.Calls.{make, remove, handOver, writeSetting, admit, fork, exit, charge, release, read, membership}
 use Rattle.model.specs.Worked.{Exchange, exchange, succeeds, refuses, granted, stopped, reads, belongs, setting, control, procs, Evening, evening}
-use Rattle.model.specs.Refusals.{allSucceed, allGet, allControllers, unread, begun}
+use Rattle.model.specs.Refusals.{allSucceed, allGet, allControllers, unread, begun, descent, deepChain, deepLine}
 
 -- a text that fills its buffer, and one that does not fit into n bytes
 abbrev pub fills : ℕ → String → String → Exchange
@@ -130,21 +130,37 @@ inRoot =
     ++ stopped (charge 11 3) 12 0 1 ∷ granted (charge 11 2) 1 ∷ refuses (release 0 5) 34 ∷ []
     ++ succeeds (release 0 4) ∷ refuses (release 0 1) 34 ∷ [])
 
--- Group 63 and processes 1 and 256, each in every role.
+-- Group 255 and processes 1 and 1024, each in every role.
 abbrev pub ends : Evening
 ends =
     evening 8
-    (allSucceed (make 0 0 1 ∷ make 0 1 63 ∷ control 0 0 allControllers ∷ control 0 1 allControllers ∷ admit 1 7 ∷ [])
-    ++ granted (fork 1 256) 1 ∷ []
-    ++ allSucceed (procs 0 63 "1" ∷ procs 0 63 "256" ∷ exit 1 ∷ [])
-    ++ allGet 16 (control 0 63 "+cpu" ∷ remove 0 63 ∷ [])
-    ++ granted (fork 256 1) 3 ∷ granted (charge 256 1) 3 ∷ granted (charge 1 1) 3 ∷ []
-    ++ belongs 1 "0::/1/63\n" ∷ belongs 256 "0::/1/63\n" ∷ reads 63 "cgroup.procs" "1\n256\n" ∷ []
+    (allSucceed (make 0 0 1 ∷ make 0 1 255 ∷ control 0 0 allControllers ∷ control 0 1 allControllers ∷ admit 1 7 ∷ [])
+    ++ granted (fork 1 1024) 1 ∷ []
+    ++ allSucceed (procs 0 255 "1" ∷ procs 0 255 "1024" ∷ exit 1 ∷ [])
+    ++ allGet 16 (control 0 255 "+cpu" ∷ remove 0 255 ∷ [])
+    ++ granted (fork 1024 1) 3 ∷ granted (charge 1024 1) 3 ∷ granted (charge 1 1) 3 ∷ []
+    ++ belongs 1 "0::/1/255\n" ∷ belongs 1024 "0::/1/255\n" ∷ reads 255 "cgroup.procs" "1\n1024\n" ∷ []
     ++ reads 1 "pids.current" "2\n" ∷ reads 1 "memory.current" "8192\n" ∷ []
-    ++ allSucceed (exit 256 ∷ exit 1 ∷ release 63 2 ∷ setting 0 63 "cpu.weight" "5" ∷ control 0 63 "+cpu" ∷ [])
+    ++ allSucceed (exit 1024 ∷ exit 1 ∷ release 255 2 ∷ setting 0 255 "cpu.weight" "5" ∷ control 0 255 "+cpu" ∷ [])
     ++ allGet 16 (control 0 1 "-cpu" ∷ remove 0 1 ∷ [])
-    ++ allSucceed (control 0 63 "-cpu" ∷ control 0 1 "-cpu" ∷ control 0 1 "+cpu" ∷ []) ++ reads 63 "cpu.weight" "100\n" ∷ []
-    ++ allSucceed (handOver 0 63 7 ∷ make 7 63 62 ∷ remove 7 62 ∷ remove 0 63 ∷ []))
+    ++ allSucceed (control 0 255 "-cpu" ∷ control 0 1 "-cpu" ∷ control 0 1 "+cpu" ∷ []) ++ reads 255 "cpu.weight" "100\n" ∷ []
+    ++ allSucceed (handOver 0 255 7 ∷ make 7 255 254 ∷ remove 7 254 ∷ remove 0 255 ∷ []))
+
+-- The longest chain: the limits of the group at depth 1 are asked of a process at depth 16, which is counted there, and whose move to
+-- another child of that group asks who owns it. The longest membership line fits its 68 bytes, and not 67.
+abbrev pub farUp : Evening
+farUp =
+    evening 8
+    (allSucceed (descent 0 deepChain)
+    ++ allSucceed (make 0 240 1 ∷ handOver 0 1 7 ∷ control 0 0 "+memory +pids" ∷ admit 5 7 ∷ procs 0 255 "5" ∷ [])
+    ++ exchange (membership 5 (replicate 67 1)) 28 none 0 0 (replicate 67 1) ∷ []
+    ++ exchange (membership 5 (replicate 68 1)) 0 none 0 68 (bytes deepLine) ∷ []
+    ++ allSucceed (setting 0 240 "memory.max" "4096" ∷ setting 0 240 "pids.max" "1" ∷ []) ++ granted (charge 5 1) 17 ∷ []
+    ++ stopped (charge 5 1) 12 240 16 ∷ stopped (fork 5 6) 11 240 16 ∷ reads 240 "memory.current" "4096\n" ∷ []
+    ++ readsIn (240 ∷ 247 ∷ 248 ∷ 255 ∷ []) "cgroup.events" "populated 1\n"
+    ++ refuses (procs 7 1 "5") 13 ∷ succeeds (handOver 0 240 7) ∷ succeeds (procs 7 1 "5") ∷ belongs 5 "0::/240/1\n" ∷ []
+    ++ readsIn (241 ∷ 248 ∷ 255 ∷ []) "cgroup.events" "populated 0\n" ++ reads 240 "pids.current" "1\n" ∷ []
+    ++ reads 240 "memory.current" "4096\n" ∷ succeeds (release 255 1) ∷ reads 240 "memory.current" "0\n" ∷ [])
 
 -- "would pass memory.max": usage and charge together, of the group and all inside it; of several groups without room the first
 -- going up is told. A child's limit may be larger than its parent's, and a pids limit smaller than what is there.
@@ -284,5 +300,5 @@ showingBelow =
 
 unfoldable pub outcomes : List Evening
 outcomes =
-    made ∷ handedOn ∷ passedUp ∷ movers ∷ staying ∷ inRoot ∷ ends ∷ rooms ∷ resetting ∷ neighbours ∷ roundedDown
+    made ∷ handedOn ∷ passedUp ∷ movers ∷ staying ∷ inRoot ∷ ends ∷ farUp ∷ rooms ∷ resetting ∷ neighbours ∷ roundedDown
     ∷ settingRanges ∷ settingsApart ∷ wholeReplies ∷ showing ∷ showingBelow ∷ []

@@ -1,6 +1,6 @@
 -- A second table of evenings, beside the paper's own in Worked.antt: for each call of document 01 the number of each refusal and,
--- wherever two checks can both fail, that the earlier one's number wins; who may; and the lines that are malformed. What accepted
--- calls do, and what readers see, is in Outcomes.antt. Group 9 and process 9 are never live. Assumes nothing.
+-- wherever two checks can both fail, that the earlier one's number wins; who may; and the lines that are malformed. The ends of ranges
+-- are order 4's. What accepted calls do, and what readers see, is in Outcomes.antt. Group 9 and process 9 are never live. Assumes nothing.
 use Prim.Native.Nat.{ℕ, _-_}
 use Prim.Native.String.{String}
 use mathlib.Core.List.{List, [], _∷_, _++_, map}
@@ -42,30 +42,42 @@ abbrev pub making : Evening
 making =
     evening 0
     (begun
-    ++ allGet 22 (make 0 64 4 ∷ make 0 64 1 ∷ make 0 9 64 ∷ make 8 1 64 ∷ [])
+    ++ allGet 22 (make 0 256 4 ∷ make 0 256 1 ∷ make 0 9 256 ∷ make 8 1 256 ∷ [])
     ++ allGet 2 (make 0 9 1 ∷ make 0 9 9 ∷ make 8 9 4 ∷ [])
     ++ allGet 17 (make 8 1 2 ∷ make 8 0 0 ∷ make 7 1 1 ∷ [])
     ++ allGet 13 (make 8 1 4 ∷ make 7 0 4 ∷ [])
-    ++ allSucceed (make 0 1 63 ∷ make 7 1 4 ∷ [])
-    ++ allGet 13 (make 7 63 5 ∷ [])
-    ++ allSucceed (handOver 0 63 8 ∷ [])
-    ++ allGet 13 (make 7 63 5 ∷ make 8 1 5 ∷ [])
-    ++ allSucceed (make 8 63 5 ∷ handOver 0 5 4294967295 ∷ make 4294967295 5 6 ∷ make 4294967295 6 7 ∷ [])
+    ++ allSucceed (make 0 1 255 ∷ make 7 1 4 ∷ [])
+    ++ allGet 13 (make 7 255 5 ∷ [])
+    ++ allSucceed (handOver 0 255 8 ∷ [])
+    ++ allGet 13 (make 7 255 5 ∷ make 8 1 5 ∷ [])
+    ++ allSucceed (make 8 255 5 ∷ handOver 0 5 4294967295 ∷ make 4294967295 5 6 ∷ make 4294967295 6 7 ∷ [])
     ++ allGet 13 (map (λ user. make user 1 8) (65543 ∷ 2147483655 ∷ 65536 ∷ 2147483648 ∷ [])))
 
--- "Make under depth 7 passes, under depth 8 is 11", and 22, 17 and 13 before 11. From depth 8 nine groups are consulted, and the
+-- groups one below the other, and a chain of as many as there can be: 240 at depth 1 to 255 at depth 16
+abbrev pub descent : ℕ → List ℕ → List Call
+descent above [] = []
+descent above (g ∷ gs) = make 0 above g ∷ descent g gs
+
+abbrev pub deepChain : List ℕ
+deepChain = 240 ∷ 241 ∷ 242 ∷ 243 ∷ 244 ∷ 245 ∷ 246 ∷ 247 ∷ 248 ∷ 249 ∷ 250 ∷ 251 ∷ 252 ∷ 253 ∷ 254 ∷ 255 ∷ []
+
+-- the membership line there, the longest that there is
+abbrev pub deepLine : String
+deepLine = "0::/240/241/242/243/244/245/246/247/248/249/250/251/252/253/254/255\n"
+
+-- Make under depth 15 passes, under depth 16 is 11, and 22, 17 and 13 before 11. From depth 16 seventeen groups are consulted, and the
 -- root's refusal counts as many as success. "Pages are counted everywhere", here with memory on nowhere.
 abbrev pub deepening : Evening
 deepening =
     evening 1
-    (allSucceed (make 0 0 1 ∷ make 0 1 2 ∷ make 0 2 3 ∷ make 0 3 4 ∷ make 0 4 5 ∷ make 0 5 6 ∷ make 0 6 7 ∷ make 0 7 8 ∷ [])
-    ++ allGet 22 (make 0 8 64 ∷ [])
-    ++ allGet 17 (make 0 8 1 ∷ [])
-    ++ allGet 13 (make 7 8 9 ∷ [])
-    ++ allGet 11 (make 0 8 9 ∷ [])
-    ++ allSucceed (admit 5 7 ∷ procs 0 8 "5" ∷ [])
-    ++ granted (charge 5 1) 9 ∷ stopped (charge 5 1) 12 0 9 ∷ granted (fork 5 6) 9 ∷ []
-    ++ belongs 6 "0::/1/2/3/4/5/6/7/8\n" ∷ [])
+    (allSucceed (descent 0 deepChain)
+    ++ allGet 22 (make 0 255 256 ∷ [])
+    ++ allGet 17 (make 0 255 240 ∷ [])
+    ++ allGet 13 (make 7 255 9 ∷ [])
+    ++ allGet 11 (make 0 255 9 ∷ [])
+    ++ allSucceed (admit 5 7 ∷ procs 0 255 "5" ∷ [])
+    ++ granted (charge 5 1) 17 ∷ stopped (charge 5 1) 12 0 17 ∷ granted (fork 5 6) 17 ∷ []
+    ++ belongs 6 deepLine ∷ [])
 
 -- Remove: 22, 2, 13, 16. To own the group alone gives nothing, and to own a group further up nothing either; the parent's owner
 -- removes another's group. The root is 16 for user 0, empty or not, and 13 for others. "The number may be used again."
@@ -75,7 +87,7 @@ removing =
     (refuses (remove 0 0) 16
     ∷ begun
     ++ allSucceed (procs 0 2 "5" ∷ [])
-    ++ allGet 22 (remove 7 64 ∷ [])
+    ++ allGet 22 (remove 7 256 ∷ [])
     ++ allGet 2 (remove 7 9 ∷ [])
     ++ allGet 13 (remove 7 1 ∷ remove 7 0 ∷ remove 8 2 ∷ [])
     ++ allGet 16 (remove 0 0 ∷ remove 0 1 ∷ remove 7 2 ∷ [])
@@ -90,7 +102,7 @@ abbrev pub handing : Evening
 handing =
     evening 0
     (begun
-    ++ allGet 22 (handOver 7 0 7 ∷ handOver 7 64 7 ∷ [])
+    ++ allGet 22 (handOver 7 0 7 ∷ handOver 7 256 7 ∷ [])
     ++ allGet 2 (handOver 7 9 7 ∷ [])
     ++ allGet 13 (handOver 7 1 8 ∷ handOver 7 2 8 ∷ make 8 1 4 ∷ [])
     ++ allSucceed (handOver 0 1 7 ∷ handOver 0 1 0 ∷ [])
@@ -103,14 +115,14 @@ moving =
     evening 0
     (begun
     ++ allSucceed (control 0 0 "+cpu" ∷ control 7 1 "+cpu" ∷ [])
-    ++ allGet 22 (map (procs 8 64) ("x" ∷ "257" ∷ []))
-    ++ allGet 2 (map (procs 8 9) ("x" ∷ "257" ∷ []))
-    ++ allGet 13 (map (procs 8 2) ("x" ∷ "0" ∷ "9" ∷ "257" ∷ []))
+    ++ allGet 22 (map (procs 8 256) ("x" ∷ "1025" ∷ []))
+    ++ allGet 2 (map (procs 8 9) ("x" ∷ "1025" ∷ []))
+    ++ allGet 13 (map (procs 8 2) ("x" ∷ "0" ∷ "9" ∷ "1025" ∷ []))
     ++ allGet 13 (writeProcs 8 2 (padded 129 "5") ∷ procs 7 0 "5" ∷ [])
     ++ allGet 22 (map (procs 7 2) ("" ∷ "x" ∷ "5 6" ∷ "+5" ∷ "-1" ∷ "5\t" ∷ "5\n\n" ∷ "5\r\n" ∷ "0" ∷ "000" ∷ []))
     ++ allGet 22 (map (procs 7 2) ("5:" ∷ "/5" ∷ ":" ∷ "\n5" ∷ []))
-    ++ allGet 22 (map (writeProcs 7 2) (padded 129 "9" ∷ padded 129 "257" ∷ ended (padded 128 "5") ∷ []))
-    ++ allGet 3 (map (procs 7 2) ("9" ∷ "257" ∷ "4294967301" ∷ "18446744073709551621" ∷ []))
+    ++ allGet 22 (map (writeProcs 7 2) (padded 129 "9" ∷ padded 129 "1025" ∷ ended (padded 128 "5") ∷ []))
+    ++ allGet 3 (map (procs 7 2) ("9" ∷ "1025" ∷ "4294967301" ∷ "18446744073709551621" ∷ []))
     ++ allGet 13 (procs 7 2 "5" ∷ [])
     ++ allSucceed (procs 0 2 "5" ∷ procs 0 2 "6" ∷ [])
     ++ allGet 13 (procs 7 3 "6" ∷ procs 7 1 "6" ∷ [])
@@ -126,7 +138,7 @@ controlling =
     evening 0
     (begun
     ++ allSucceed (control 0 0 "+cpu +memory" ∷ handOver 0 3 8 ∷ [])
-    ++ allGet 22 (control 8 64 "x" ∷ [])
+    ++ allGet 22 (control 8 256 "x" ∷ [])
     ++ allGet 2 (control 8 9 "x" ∷ [])
     ++ allGet 13 (map (control 8 1) ("x" ∷ "+pids" ∷ []))
     ++ allGet 13 (writeControl 8 1 (padded 129 "") ∷ control 7 3 "" ∷ control 7 0 "" ∷ [])
@@ -176,7 +188,7 @@ settingForms =
     evening 0
     (begun
     ++ allSucceed (control 0 0 "+cpu +memory" ∷ control 7 1 "+cpu" ∷ handOver 0 2 8 ∷ make 8 2 4 ∷ control 8 2 "+cpu" ∷ [])
-    ++ allGet 22 (setting 8 64 "cpu" "x" ∷ [])
+    ++ allGet 22 (setting 8 256 "cpu" "x" ∷ [])
     ++ allGet 2 (setting 8 9 "cpu.max" "x" ∷ setting 8 2 "memory.max" "x" ∷ setting 0 0 "cpu.weight" "100" ∷ [])
     ++ allGet 2 (map (λ file. setting 8 1 file "x") ("cpu" ∷ "memory.current" ∷ "cpu.maxx" ∷ "cpu.max\n" ∷ "CPU.MAX" ∷ "" ∷ []))
     ++ allGet 13 (map (setting 8 2 "cpu.max") ("x" ∷ "5" ∷ []))
@@ -204,16 +216,16 @@ abbrev pub births : Evening
 births =
     evening 0
     (begun
-    ++ allGet 22 (admit 0 7 ∷ admit 257 7 ∷ [])
+    ++ allGet 22 (admit 0 7 ∷ admit 1025 7 ∷ [])
     ++ allGet 17 (admit 5 8 ∷ [])
-    ++ succeeds (admit 256 0) ∷ belongs 256 "0::/\n" ∷ granted (fork 5 4) 1 ∷ []
+    ++ succeeds (admit 1024 0) ∷ belongs 1024 "0::/\n" ∷ granted (fork 5 4) 1 ∷ []
     ++ allSucceed (control 0 0 "+pids" ∷ setting 0 1 "pids.max" "0" ∷ procs 0 2 "5" ∷ [])
-    ++ allGet 3 (fork 0 257 ∷ fork 257 0 ∷ fork 9 0 ∷ fork 9 5 ∷ [])
-    ++ allGet 22 (fork 5 0 ∷ fork 5 257 ∷ [])
+    ++ allGet 3 (fork 0 1025 ∷ fork 1025 0 ∷ fork 9 0 ∷ fork 9 5 ∷ [])
+    ++ allGet 22 (fork 5 0 ∷ fork 5 1025 ∷ [])
     ++ allGet 17 (fork 5 5 ∷ fork 5 6 ∷ [])
     ++ stopped (fork 5 7) 11 1 2 ∷ succeeds (setting 0 1 "pids.max" "2") ∷ granted (fork 5 7) 3 ∷ []
     ++ stopped (fork 5 8) 11 1 2 ∷ succeeds (procs 7 3 "7") ∷ belongs 7 "0::/1/3\n" ∷ []
-    ++ allGet 3 (exit 0 ∷ exit 9 ∷ exit 257 ∷ [])
+    ++ allGet 3 (exit 0 ∷ exit 9 ∷ exit 1025 ∷ [])
     ++ succeeds (exit 7) ∷ refuses (exit 7) 3 ∷ succeeds (admit 7 0) ∷ [])
 
 -- Charge: 3, 22, 12, where a process out of range is 3. A machine of no pages refuses every charge.
@@ -221,7 +233,7 @@ abbrev pub charging : Evening
 charging =
     evening 0
     (begun
-    ++ allGet 3 (charge 0 0 ∷ charge 257 0 ∷ charge 9 1048577 ∷ [])
+    ++ allGet 3 (charge 0 0 ∷ charge 1025 0 ∷ charge 9 1048577 ∷ [])
     ++ allGet 22 (charge 5 0 ∷ charge 5 1048577 ∷ [])
     ++ stopped (charge 5 1) 12 0 1 ∷ [])
 
@@ -233,7 +245,7 @@ releasing =
     ++ allSucceed (control 0 0 "+memory" ∷ procs 0 2 "5" ∷ setting 0 1 "memory.max" "0" ∷ [])
     ++ stopped (charge 5 1) 12 1 2 ∷ succeeds (setting 0 1 "memory.max" "max") ∷ granted (charge 5 1048576) 3 ∷ []
     ++ stopped (charge 5 1) 12 0 3 ∷ stopped (charge 6 1) 12 0 1 ∷ []
-    ++ allGet 22 (release 64 1 ∷ release 9 0 ∷ release 9 1048577 ∷ release 1 1048577 ∷ [])
+    ++ allGet 22 (release 256 1 ∷ release 9 0 ∷ release 9 1048577 ∷ release 1 1048577 ∷ [])
     ++ allGet 2 (release 9 1 ∷ [])
     ++ allGet 34 (release 1 1 ∷ [])
     ++ succeeds (release 2 1048576) ∷ refuses (release 2 1) 34 ∷ [])
@@ -243,10 +255,10 @@ abbrev pub reading : Evening
 reading =
     evening 0
     (allSucceed (make 0 0 1 ∷ admit 200 0 ∷ admit 3 0 ∷ admit 12 0 ∷ [])
-    ++ unread 64 "cgroup" 22 ∷ unread 64 "cgroup.events" 22 ∷ unread 9 "cgroup.events" 2 ∷ []
+    ++ unread 256 "cgroup" 22 ∷ unread 256 "cgroup.events" 22 ∷ unread 9 "cgroup.events" 2 ∷ []
     ++ unread 0 "cgroup.events" 2 ∷ unread 1 "cpu.max" 2 ∷ unread 0 "cgroup.procs" 28 ∷ []
     ++ map (λ file. unread 1 file 2) ("cgroup" ∷ "cgroup.procsx" ∷ "cgroup.procs\n" ∷ "CGROUP.PROCS" ∷ "" ∷ [])
-    ++ unknown 0 3 ∷ unknown 9 3 ∷ unknown 257 3 ∷ unknown 12 28 ∷ [])
+    ++ unknown 0 3 ∷ unknown 9 3 ∷ unknown 1025 3 ∷ unknown 12 28 ∷ [])
 
 unfoldable pub refusals : List Evening
 refusals =

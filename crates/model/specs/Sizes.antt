@@ -1,17 +1,25 @@
--- The sizes of document 01, "What the host keeps" and "Lines", and of order 1, each named once. Assumes nothing.
+-- The sizes of document 01, "What the host keeps" and "Lines", and of orders 1 and 4, each named once. Assumes nothing.
 use Prim.Native.Nat.{ℕ}
 
--- group numbers are below this: "Groups 0 to 63"
+-- order 4: group numbers are below this: "Groups go to 0 to 255"
 abbrev pub groups : ℕ
-groups = 64
+groups = 256
 
--- process numbers are above 0 and below this: "Processes 1 to 256"
+-- process numbers are above 0 and below this: "processes to 1 to 1024"
 abbrev pub processes : ℕ
-processes = 257
+processes = 1025
 
--- "A child's depth is its parent's plus one, at most 8"
+-- "A child's depth is its parent's plus one", at most this: "depth to 16"
 abbrev pub deepest : ℕ
-deepest = 8
+deepest = 16
+
+-- "the longest cgroup.procs reply becomes 4,013 bytes"
+abbrev pub longestListing : ℕ
+longestListing = 4013
+
+-- and no membership line is longer: "0::", for each level a "/" and a number, and a newline
+abbrev pub longestMembership : ℕ
+longestMembership = 68
 
 -- "pages of 4,096 bytes"
 abbrev pub pageBytes : ℕ

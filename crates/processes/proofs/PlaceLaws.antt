@@ -1,17 +1,20 @@
--- A process's place and the running sums above it, changed together: the sums are counted anew above one group or two, then the
--- place is stored, and every sum is the number of processes inside. Once for who comes, who goes and who moves. Assumes nothing.
+-- A process's place, the running sums above it and the members of its group, changed together: the sums are counted anew above one group
+-- or two, the members there, then the place is stored, and every count is what it counts. Once for who comes, who goes and who moves.
+-- Assumes nothing.
 use Prim.Native.Nat.{ℕ, _+_, _-_, _≤_, _<_}
 use native.Mathlib.Omega.{arith}
 use mathlib.Core.Bool.{Bool, true, false}
 use mathlib.Core.List.{List}
 use mathlib.Core.Logic.{_≢_}
 use mathlib.Core.Path.{_≡_, refl, ap, sym, _∙_, subst}
+use lib.Dec.{eqb}
 use lib.ListN.{length}
+use borrow.Author.Tests.{eq-eqb}
 use Rattle.model.specs.Functions.{pick, upd, weigh}
 use Rattle.model.specs.Sizes.{groups, processes}
 use Rattle.model.specs.Tree.{Tree, Place, nowhere, at, Process, noProcess, groupOf, isLive, lives, cores, places, parents, depths, atProcess}
 use Rattle.model.specs.Hierarchy.{inside, headcount, population}
-use Rattle.model.specs.Rules.{processGroup}
+use Rattle.model.specs.Rules.{standsIn, processGroup}
 use Rattle.model.specs.WellFormed.{Sound}
 use Rattle.model.specs.Calls.{Call, verdict}
 use Rattle.model.specs.Effects.{effect}
@@ -23,15 +26,16 @@ use Rattle.model.proofs.CommonAncestorLaws.{ancestor-of-left, ancestor-of-right
 use Rattle.model.proofs.AmountLaws.{place-live, place-free, population-change}
 use Rattle.model.proofs.ProcessLaws.{process-range}
 use Rattle.tree.specs.Layout.{treeWords, view, sumIn, Spare}
-use Rattle.tree.specs.Changes.{ProcessRow, Wrote, Adjusted}
-use Rattle.tree.specs.Counters.{bottom, ChainOf, Adjustable}
-use Rattle.tree.specs.Kept.{countOf, Kept}
+use Rattle.tree.specs.Changes.{ProcessRow, Wrote, AdjustedAt, Adjusted}
+use Rattle.tree.specs.Counters.{bottom, ChainOf, Countable, Adjustable}
+use Rattle.tree.specs.Kept.{members, countOf, Kept, KeptAt}
 use Rattle.tree.specs.Calling.{Applied}
 use Rattle.tree.specs.declared.chain.Chain.{Chain}
 use Rattle.tree.specs.declared.sum.Counter.{Counter}
-use Rattle.tree.specs.declared.sum.Counter.the-variants.{Of, Children}
-use Rattle.tree.proofs.AdjustLaws.{counters-apart, Rising}
-use Rattle.tree.proofs.KeptLaws.{kept-low, adjustable}
+use Rattle.tree.specs.declared.sum.Counter.the-variants.{Of, Children, Members}
+use Rattle.tree.proofs.AdjustLaws.{counters-apart, sum-adjusted-at, Rising}
+use Rattle.tree.proofs.CountLaws.{members-change, member-counted}
+use Rattle.tree.proofs.KeptLaws.{kept-low, countable, adjustable}
 use Rattle.tree.proofs.WalkLaws.{bottom-of}
 use Rattle.tree.proofs.CallLaws.{applied-as}
 use Rattle.tree.proofs.RoomCallLaws.{sum-after-adjust}
@@ -91,24 +95,83 @@ module _ (xs ys : List ℕ) (g : ℕ) where
         spare = d .spare;
       }
 
+-- the members after one left `from` and came to `to`; all else is as it was
+record Mustered (xs ys : List ℕ) (from to : Place) : Type 0 where
+  pub long : length ys ≡ treeWords
+  pub tree : view ys ≡ view xs
+  pub members : (a : ℕ) → sumIn ys Members a + weigh (standsIn from a) 1 ≡ sumIn xs Members a + weigh (standsIn to a) 1
+  pub other : (c : Counter) → c ≢ Members → (a : ℕ) → sumIn ys c a ≡ sumIn xs c a
+  pub spare : Spare xs → Spare ys
+
+-- one more in g
+mustered-more : (xs ys : List ℕ) (g : ℕ) → AdjustedAt xs ys Members g 1 0 → Mustered xs ys nowhere (at g)
+mustered-more xs ys g d =
+    record {
+      long = d .long;
+      tree = d .tree;
+      members = λ a. omega (arith, sum-adjusted-at xs ys Members g 1 0 d (omega arith) a, weigh-zero (eqb g a), weigh-no false 1 refl);
+      other = d .other;
+      spare = d .spare;
+    }
+
+-- and one less
+mustered-less : (xs ys : List ℕ) (g : ℕ) → Countable xs Members g 0 1 → AdjustedAt xs ys Members g 0 1 → Mustered xs ys (at g) nowhere
+mustered-less xs ys g q d =
+    record {
+      long = d .long;
+      tree = d .tree;
+      members = λ a. omega (arith, sum-adjusted-at xs ys Members g 0 1 d (q .enough) a, weigh-zero (eqb g a), weigh-no false 1 refl);
+      other = d .other;
+      spare = d .spare;
+    }
+
+mustered-then : {xs ys zs : List ℕ} {from to : Place} → Mustered xs ys from nowhere → Mustered ys zs nowhere to → Mustered xs zs from to
+mustered-then d e =
+    record {
+      long = e .long;
+      tree = e .tree ∙ d .tree;
+      members = λ a. omega (arith, d .members a, e .members a);
+      other = λ c ne a. e .other c ne a ∙ d .other c ne a;
+      spare = λ s. e .spare (d .spare s);
+    }
+
+-- members are counted apart from processes inside
+members-apart : Members ≢ Of Processes
+members-apart = counters-apart Members (Of Processes) (λ e. omega arith)
+
+processes-apart : Of Processes ≢ Members
+processes-apart = counters-apart (Of Processes) Members (λ e. omega arith)
+
+-- what can be counted there still can
+still-countable : {xs ys : List ℕ} {g n m : ℕ} → Countable xs Members g n m → length ys ≡ treeWords → sumIn ys Members g ≡ sumIn xs Members g
+    → Countable ys Members g n m
+still-countable q l e = record { long = l; low = q .low; room = rw e (q .room); enough = rw e (q .enough) }
+
 -- then the place is stored
-module _ (xs ys zs : List ℕ) (k : Kept xs) (p : ℕ) (low : p < processes) (v : Process) where
-  seated : Recounted xs ys (places (view xs) p) (v .place) → Wrote ys zs (atProcess (view ys) p v) → Seated xs zs p v
-  seated d w =
+module _ (xs ys us zs : List ℕ) (k : Kept xs) (p : ℕ) (low : p < processes) (v : Process) where
+  seated : Recounted xs ys (places (view xs) p) (v .place) → Mustered ys us (places (view xs) p) (v .place)
+      → Wrote us zs (atProcess (view us) p v) → Seated xs zs p v
+  seated d m w =
       record {
         long = w .long;
-        tree = w .tree ∙ ap (λ (t : Tree). atProcess t p v) (d .tree);
+        tree = w .tree ∙ ap (λ (t : Tree). atProcess t p v) (m .tree ∙ d .tree);
         sums = sums-after;
-        spare = w .spare (d .spare (k .spare));
+        spare = w .spare (m .spare (d .spare (k .spare)));
       }
     where
-      -- sums that are not of processes are as before, and count nothing of a place
-      stays : (c : Counter) → c ≢ Of Processes → (a : ℕ) → sumIn zs c a ≡ countOf (cores (view xs)) (places (view xs)) c a
-      stays c ne a = w .sums c a ∙ d .other c ne a ∙ k .sums c a
+      -- counts that are not of processes are as before, and count nothing of a place
+      stays : (c : Counter) → c ≢ Of Processes → c ≢ Members → (a : ℕ) → sumIn zs c a ≡ countOf (cores (view xs)) (places (view xs)) c a
+      stays c ne nm a = w .sums c a ∙ m .other c nm a ∙ d .other c ne a ∙ k .sums c a
+
+      -- the places after it
+      after : upd (places (view xs)) p (v .place) ≡ places (atProcess (view xs) p v)
+      after = sym (upd-map (λ (x : Process). x .place) (view xs .process) p v)
 
       sums-after : (c : Counter) (a : ℕ) → sumIn zs c a ≡ countOf (cores (view xs)) (places (atProcess (view xs) p v)) c a
-      sums-after (Of Pages) a = stays (Of Pages) (counters-apart (Of Pages) (Of Processes) (λ e. omega arith)) a
-      sums-after Children a = stays Children (counters-apart Children (Of Processes) (λ e. omega arith)) a
+      sums-after (Of Pages) a =
+          stays (Of Pages) (counters-apart (Of Pages) (Of Processes) (λ e. omega arith)) (counters-apart (Of Pages) Members (λ e. omega arith)) a
+      sums-after Children a =
+          stays Children (counters-apart Children (Of Processes) (λ e. omega arith)) (counters-apart Children Members (λ e. omega arith)) a
       sums-after (Of Processes) a =
           let u : population (cores (view xs)) (upd (places (view xs)) p (v .place)) a ≡ sumIn ys (Of Processes) a =
           omega (
@@ -117,23 +180,39 @@ module _ (xs ys zs : List ℕ) (k : Kept xs) (p : ℕ) (low : p < processes) (v 
             d .processes a,
             k .sums (Of Processes) a,
           ) in
-          w .sums (Of Processes) a ∙ sym u
-          ∙ ap (λ (pl : ℕ → Place). population (cores (view xs)) pl a) (sym (upd-map (λ (x : Process). x .place) (view xs .process) p v))
+          w .sums (Of Processes) a ∙ m .other (Of Processes) processes-apart a ∙ sym u
+          ∙ ap (λ (pl : ℕ → Place). population (cores (view xs)) pl a) after
+      sums-after Members a =
+          let u : members (upd (places (view xs)) p (v .place)) a ≡ sumIn us Members a =
+          omega (
+            arith,
+            members-change (places (view xs)) p (v .place) a low,
+            m .members a,
+            d .other Members members-apart a,
+            k .sums Members a,
+          ) in
+          w .sums Members a ∙ sym u ∙ ap (λ (pl : ℕ → Place). members pl a) after
 
 -- A birth.
 module _ (xs : List ℕ) (p g : ℕ) (h : Vacant xs p g) where
   pub enter-adjustable : (n : ℕ) → n ≤ 1 → Adjustable xs (Of Processes) g n 0
   enter-adjustable n few = adjustable xs (h .home .kept) g (h .home .live) (Of Processes) n 0 (omega arith) (λ a i. omega arith)
 
-  -- number and group have a row still
-  pub enter-rows : (ys : List ℕ) → Adjusted xs ys (Of Processes) g 1 0 → ProcessRow ys p × (g < groups)
-  enter-rows ys d = (record { long = d .long; low = h .low }, kept-low (h .home))
+  pub enter-countable : (ys : List ℕ) → Adjusted xs ys (Of Processes) g 1 0 → (n : ℕ) → n ≤ 1 → Countable ys Members g n 0
+  enter-countable ys d n few =
+      still-countable (countable xs (h .home .kept) g (h .home .live) Members n 0 (omega arith) (omega arith)) (d .long)
+      (d .other Members members-apart g)
 
-  pub entered : (ys zs : List ℕ) (user : ℕ) → Adjusted xs ys (Of Processes) g 1 0
-      → Wrote ys zs (atProcess (view ys) p (record { place = at g; user = user })) → Seated xs zs p (record { place = at g; user = user })
-  entered ys zs user d w =
-      seated xs ys zs (h .home .kept) p (h .low) (record { place = at g; user = user })
-      (rw (place-free (places (view xs) p) (h .free)) (recounted-more xs ys g d)) w
+  -- number and group have a row still
+  pub enter-rows : (ys us : List ℕ) → AdjustedAt ys us Members g 1 0 → ProcessRow us p × (g < groups)
+  enter-rows ys us j = (record { long = j .long; low = h .low }, kept-low (h .home))
+
+  pub entered : (ys us zs : List ℕ) (user : ℕ) → Adjusted xs ys (Of Processes) g 1 0 → AdjustedAt ys us Members g 1 0
+      → Wrote us zs (atProcess (view us) p (record { place = at g; user = user })) → Seated xs zs p (record { place = at g; user = user })
+  entered ys us zs user d j w =
+      let was : places (view xs) p ≡ nowhere = place-free (places (view xs) p) (h .free) in
+      seated xs ys us zs (h .home .kept) p (h .low) (record { place = at g; user = user })
+      (rw was (recounted-more xs ys g d)) (rw was (mustered-more ys us g j)) w
 
 -- An end.
 module _ (xs : List ℕ) (p : ℕ) (h : Standing xs p) where
@@ -163,11 +242,27 @@ module _ (xs : List ℕ) (p : ℕ) (h : Standing xs p) where
       ))
       (rw e at d)
 
-  pub exited : (ys zs : List ℕ) (g : ℕ) → g ≡ processGroup (view xs) p → Adjusted xs ys (Of Processes) g 0 1
-      → Wrote ys zs (atProcess (view ys) p noProcess) → Seated xs zs p noProcess
-  exited ys zs g e d w =
-      seated xs ys zs (h .home .kept) p standing-low noProcess
-      (rw (place-live (places (view xs) p) (h .live)) (left-out ys g e d)) w
+  -- and in the group where it stands
+  member-standing : (g m : ℕ) → g ≡ processGroup (view xs) p → m ≤ 1 → Countable xs Members g 0 m
+  member-standing g m e few =
+      let here : ℕ = processGroup (view xs) p in
+      let stands : standsIn (places (view xs) p) here ≡ true =
+      ap (λ (l : Place). standsIn l here) (place-live (places (view xs) p) (h .live)) ∙ eq-eqb here here refl in
+      rw e
+      (countable xs (h .home .kept) here (h .home .live) Members 0 m (omega arith)
+      (omega (arith, member-counted (places (view xs)) p here standing-low stands)))
+
+  pub leave-countable : (ys : List ℕ) (g m : ℕ) → g ≡ processGroup (view xs) p → Adjusted xs ys (Of Processes) g 0 1 → m ≤ 1
+      → Countable ys Members g 0 m
+  leave-countable ys g m e d few = still-countable (member-standing g m e few) (d .long) (d .other Members members-apart g)
+
+  pub exited : (ys us zs : List ℕ) (g : ℕ) → g ≡ processGroup (view xs) p → Adjusted xs ys (Of Processes) g 0 1
+      → AdjustedAt ys us Members g 0 1 → Wrote us zs (atProcess (view us) p noProcess) → Seated xs zs p noProcess
+  exited ys us zs g e d j w =
+      let was : places (view xs) p ≡ at g = place-live (places (view xs) p) (h .live) ∙ ap at (sym e) in
+      seated xs ys us zs (h .home .kept) p standing-low noProcess
+      (rw (place-live (places (view xs) p) (h .live)) (left-out ys g e d))
+      (rw was (mustered-less ys us g (leave-countable ys g 1 e d (omega arith)) j)) w
 
 -- A move: below the lowest group on both chains one less along the one, and one more along the other.
 not-more : (b : Bool) (s m : ℕ) → pick b (s + 0 - m) s ≤ s
@@ -231,10 +326,6 @@ module _ {xs : List ℕ} {p : ℕ} {source target : Chain} {m : ℕ} (h : Migrat
         }
 
     module _ (zs : List ℕ) (e : Rising ys (Of Processes) (bottom target) 1 0 zs m) where
-      -- number and group have a row still
-      pub move-rows : ProcessRow zs p × (bottom target < groups)
-      move-rows = (record { long = e .long; low = standing-low xs p (h .moving .from) }, kept-low (h .moving .to))
-
       -- who is inside what is as it was
       same-inside : (a g : ℕ) → inside (parents (view ys)) a g ≡ inside (parents (view xs)) a g
       same-inside a g = ap (λ (t : Tree). inside (parents t) a g) (d .tree)
@@ -275,13 +366,48 @@ module _ {xs : List ℕ} {p : ℕ} {source target : Chain} {m : ℕ} (h : Migrat
             spare = λ x. e .spare (d .spare x);
           }
 
-      pub moved : (us : List ℕ) (user : ℕ) → user ≡ view zs .process p .user
-          → Wrote zs us (atProcess (view zs) p (record { place = at (bottom target); user = user })) → Moved xs us p (bottom target)
-      moved us user q w =
-          let same : user ≡ view xs .process p .user = q ∙ ap (λ (t : Tree). t .process p .user) (e .tree ∙ d .tree) in
-          let was : places (view xs) p ≡ at (bottom source) = place-live (places (view xs) p) (h .moving .from .live) ∙ ap at (sym source-home) in
-          seated xs zs us (h .moving .to .kept) p (standing-low xs p (h .moving .from)) (record { place = at (bottom target); user = view xs .process p .user })
-          (rw was recounted) (rw same at w)
+      -- no member is counted otherwise yet
+      members-still : (a : ℕ) → sumIn zs Members a ≡ sumIn xs Members a
+      members-still a = e .other Members members-apart a ∙ d .other Members members-apart a
+
+      pub move-less : (m : ℕ) → m ≤ 1 → Countable zs Members (bottom source) 0 m
+      move-less m few = still-countable (member-standing xs p (h .moving .from) (bottom source) m source-home few) (e .long) (members-still (bottom source))
+
+      module _ (us : List ℕ) (i : AdjustedAt zs us Members (bottom source) 0 1) where
+        pub move-more : (n : ℕ) → n ≤ 1 → Countable us Members (bottom target) n 0
+        move-more n few =
+            let g : ℕ = bottom target in
+            let to = h .moving .to in
+            let was : Countable xs Members g n 0 = countable xs (to .kept) g (to .live) Members n 0 (omega arith) (omega arith) in
+            record {
+              long = i .long;
+              low = was .low;
+              room = omega (
+                arith,
+                was .room,
+                members-still g,
+                sum-adjusted-at zs us Members (bottom source) 0 1 i (move-less 1 (omega arith) .enough) g,
+                weigh-zero (eqb (bottom source) g),
+              );
+              enough = omega arith;
+            }
+
+        module _ (vs : List ℕ) (j : AdjustedAt us vs Members (bottom target) 1 0) where
+          -- number and group have a row still
+          pub move-rows : ProcessRow vs p × (bottom target < groups)
+          move-rows = (record { long = j .long; low = standing-low xs p (h .moving .from) }, kept-low (h .moving .to))
+
+          pub moved : (ws : List ℕ) (user : ℕ) → user ≡ view vs .process p .user
+              → Wrote vs ws (atProcess (view vs) p (record { place = at (bottom target); user = user })) → Moved xs ws p (bottom target)
+          moved ws user q w =
+              let same : user ≡ view xs .process p .user =
+              q ∙ ap (λ (t : Tree). t .process p .user) (j .tree ∙ i .tree ∙ e .tree ∙ d .tree) in
+              let was : places (view xs) p ≡ at (bottom source) = place-live (places (view xs) p) (h .moving .from .live) ∙ ap at (sym source-home) in
+              let mustered : Mustered zs vs (at (bottom source)) (at (bottom target)) =
+              mustered-then (mustered-less zs us (bottom source) (move-less 1 (omega arith)) i) (mustered-more us vs (bottom target) j) in
+              seated xs zs vs ws (h .moving .to .kept) p (standing-low xs p (h .moving .from))
+              (record { place = at (bottom target); user = view xs .process p .user })
+              (rw was recounted) (rw was mustered) (rw same at w)
 
 -- An accepted call whose effect is such a change.
 pub applied-seated : (xs ys : List ℕ) (c : Call) (p : ℕ) (v : Process) → Kept xs → verdict (view xs) c ≡ Done → Seated xs ys p v

@@ -16,6 +16,7 @@ use model::Resource;
 use model::RoomAnswer;
 use tree::chain::chain_of;
 use tree::counter::Search;
+use tree::counter::adjust;
 use tree::counter::try_charge;
 use tree::layout::PROCESSES;
 use tree::layout::Tree;
@@ -24,8 +25,9 @@ use tree::process::is_taken;
 use tree::process::process_group;
 use tree::process::process_user;
 use tree::process::put_process;
+use tree::sum::Counter;
 
-// 22 the number outside 1 to 256; 17 taken. Any user may be admitted.
+// 22 the number out of range; 17 taken. Any user may be admitted.
 fn vet_admit(tree: &Tree, process: ProcessId) -> Answer
     ensures { λ r. ⌜ ((user : ℕ) → r ≡ verdict (view (now (tree .entry))) (admit (process .0) user)) ⌝ }
 {
@@ -54,7 +56,7 @@ pub fn admit(tree: &mut Tree, process: ProcessId, user: u32) -> Answer
     Answer::Done
 }
 
-// The checks before room is asked for: 3 the parent is no live process; 22 the new number outside 1 to 256; 17 taken.
+// The checks before room is asked for: 3 the parent is no live process; 22 the new number out of range; 17 taken.
 fn vet_fork(tree: &Tree, parent: ProcessId, new: ProcessId) -> Answer
     requires { ⌜ Kept (now tree) ⌝ }
     ensures { λ r. ⌜ r ≡ first (forkChecks (view (now (tree .entry))) (parent .0) (new .0)) ⌝ }
@@ -95,6 +97,7 @@ pub fn fork(tree: &mut Tree, parent: ProcessId, new: ProcessId) -> RoomAnswer
         Search::Fits(count) => count,
         Search::Full(stop, place) => return RoomAnswer::NoRoom(stop, place),
     };
+    adjust(tree, group, Counter::Members, 1, 0);
     put_process(tree, new, group, user);
     RoomAnswer::Granted(count)
 }

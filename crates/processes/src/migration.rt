@@ -141,7 +141,7 @@ fn vet_move(tree: &Tree, user: u32, process: ProcessId, group: GroupId, lowest: 
 
 // Moves a process from the group of one chain to the group of another. Below the lowest group on both the sums of processes have one
 // less along the one and one more along the other; from there up, one less and one more would be none. The walks are here and not in
-// a function of their own: D130.
+// a function of their own: D130. The one group has a member less, and the other one more.
 fn migrate(tree: &mut Tree, process: ProcessId, source: Chain, target: Chain, lowest: GroupId)
     requires { ⌜ Migratable (now tree) (process .0) source target (lowest .0) ⌝ }
     ensures { λ _. ⌜ Moved (now (tree .entry)) (now (tree .exit)) (process .0) (bottom target) ⌝ }
@@ -156,6 +156,8 @@ fn migrate(tree: &mut Tree, process: ProcessId, source: Chain, target: Chain, lo
         adjust(tree, target.at[j], Counter::Of(Resource::Processes), 1, 0);
         j += 1;
     }
+    adjust(tree, source.at[0], Counter::Members, 0, 1);
+    adjust(tree, target.at[0], Counter::Members, 1, 0);
     let own_user = process_user(tree, process);
     put_process(tree, process, target.at[0], own_user);
 }

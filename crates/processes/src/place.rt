@@ -1,9 +1,11 @@
-// Where a process stands and the running sums of processes above it, changed together. It makes no check of its own.
+// Where a process stands, the running sums of processes above it and the members of its group, changed together. It makes no check of
+// its own.
 ghost use Rattle.model.specs.Tree.{at, noProcess};
 ghost use Rattle.processes.specs.Place.{Vacant, Standing, Seated};
 use model::GroupId;
 use model::ProcessId;
 use model::Resource;
+use tree::counter::adjust;
 use tree::counter::adjust_up;
 use tree::layout::Tree;
 use tree::process::clear_process;
@@ -17,6 +19,7 @@ pub fn enter(tree: &mut Tree, process: ProcessId, group: GroupId, user: u64)
     ensures { λ _. ⌜ Seated (now (tree .entry)) (now (tree .exit)) (process .0) (record { place = at (group .0); user = user }) ⌝ }
 {
     adjust_up(tree, group, Counter::Of(Resource::Processes), 1, 0);
+    adjust(tree, group, Counter::Members, 1, 0);
     put_process(tree, process, group, user);
 }
 
@@ -27,5 +30,6 @@ pub fn leave(tree: &mut Tree, process: ProcessId)
 {
     let group = process_group(tree, process);
     adjust_up(tree, group, Counter::Of(Resource::Processes), 0, 1);
+    adjust(tree, group, Counter::Members, 0, 1);
     clear_process(tree, process);
 }

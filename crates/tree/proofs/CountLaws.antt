@@ -1,22 +1,23 @@
--- What the counters count, after each kind of change: amounts by the laws of `model`, and live children, which go by parents and by
--- who is live. Assumes nothing.
-use Prim.Native.Nat.{ℕ, _+_, _≤_, _<_}
+-- What the counters count, after each kind of change: amounts by the laws of `model`; live children, which go by parents and by who is
+-- live; and members, which go by places. What the last two say of a group. Assumes nothing.
+use Prim.Native.Nat.{ℕ, zero, suc, _+_, _≤_, _<_}
 use native.Mathlib.Omega.{arith}
-use mathlib.Core.Bool.{true, false, not, _&&_}
+use mathlib.Core.Bool.{Bool, true, false, not, _&&_}
 use mathlib.Core.Logic.{_≢_}
 use mathlib.Core.Path.{_≡_, refl, ap, ap₂, _∙_}
 use lib.Dec.{eqb}
 use borrow.Author.Tests.{eqb-true, eq-eqb, ne-eqb}
-use Rattle.model.specs.Functions.{upd, weigh}
-use Rattle.model.specs.Sizes.{groups}
-use Rattle.model.specs.Tree.{Core, Place, noCore, newCore}
+use Rattle.model.specs.Functions.{upd, weigh, sum, any}
+use Rattle.model.specs.Sizes.{groups, processes}
+use Rattle.model.specs.Tree.{Tree, Core, Place, nowhere, at, noCore, newCore, cores, places}
 use Rattle.model.specs.Hierarchy.{amount, childOf}
+use Rattle.model.specs.Rules.{standsIn, hasChild, hasProcess}
 use Rattle.model.specs.WellFormed.{Sound, Placed}
 use Rattle.model.proofs.FunctionLaws.{split, whether, clash, and-left, and-right, weigh-yes, weigh-no, sum-ext, sum-change, sum-part, sum-zero, upd-same, upd-other}
 use Rattle.model.proofs.AmountLaws.{amount-same, amount-dead}
-use Rattle.tree.specs.Kept.{children, countOf}
+use Rattle.tree.specs.Kept.{children, members, countOf, countIn}
 use Rattle.tree.specs.declared.sum.Counter.{Counter}
-use Rattle.tree.specs.declared.sum.Counter.the-variants.{Of, Children}
+use Rattle.tree.specs.declared.sum.Counter.the-variants.{Of, Children, Members}
 
 -- whether a group is a child goes by its parent and by whether it is live
 child-same : (a k : ℕ) (c d : Core) → c .live ≡ d .live → c .parent ≡ d .parent → childOf a k c ≡ childOf a k d
@@ -37,6 +38,37 @@ pub count-same : (s s′ : ℕ → Core) (pl pl′ : ℕ → Place) → SameCore
 count-same s s′ pl pl′ same e (Of r) a =
     ap (λ (f : ℕ → Place). amount s′ f r a) e ∙ amount-same s s′ pl (same .parent) (λ g. ap₂ weigh (same .live g) (same .own g)) r a
 count-same s s′ pl pl′ same e Children a = children-same s s′ (same .parent) (same .live) a
+count-same s s′ pl pl′ same e Members a = ap (λ (f : ℕ → Place). members f a) e
+
+-- a process that comes to another place is one member of the one less, and of the other more
+pub members-change : (pl : ℕ → Place) (p : ℕ) (l : Place) (a : ℕ) → p < processes
+    → members (upd pl p l) a + weigh (standsIn (pl p) a) 1 ≡ members pl a + weigh (standsIn l a) 1
+unfolding members
+members-change pl p l a low =
+    sum-change processes p _ _ low (λ k ne. ap (λ x. weigh (standsIn x a) 1) (upd-other pl p l k ne))
+    ∙ ap (λ x. sum processes (λ k. weigh (standsIn (pl k) a) 1) + weigh (standsIn x a) 1) (upd-same pl p l)
+
+-- who stands in a group is counted there
+pub member-counted : (pl : ℕ → Place) (p a : ℕ) → p < processes → standsIn (pl p) a ≡ true → 1 ≤ members pl a
+unfolding members
+member-counted pl p a low y = omega (arith, sum-part processes p (λ k. weigh (standsIn (pl k) a) 1) low, weigh-yes (standsIn (pl p) a) 1 y)
+
+-- Counted one by one, some number below n passes a test just where the count is not 0.
+any-counted : (n : ℕ) (f : ℕ → Bool) (h : ℕ → ℕ) → ((j : ℕ) → h j ≡ weigh (f j) 1) → not (eqb (sum n h) 0) ≡ any n f
+unfolding any sum
+any-counted zero f h e = refl
+any-counted (suc n) f h e =
+    split (f n)
+    (λ y. rw (y, any, ne-eqb (h n + sum n h) 0 (λ z. omega (arith, e n, weigh-yes (f n) 1 y))))
+    (λ o. let z : h n + sum n h ≡ sum n h = omega (arith, e n, weigh-no (f n) 1 o) in rw (o, any, z) (any-counted n f h e))
+
+pub hasChild-counted : (t : Tree) (g : ℕ) → not (eqb (countIn t Children g) 0) ≡ hasChild t g
+unfolding hasChild children
+hasChild-counted t g = any-counted groups (λ j. childOf g j (cores t j)) _ (λ j. refl)
+
+pub hasProcess-counted : (t : Tree) (g : ℕ) → not (eqb (countIn t Members g) 0) ≡ hasProcess t g
+unfolding hasProcess members
+hasProcess-counted t g = any-counted processes (λ p. standsIn (places t p) g) _ (λ p. refl)
 
 -- who is no child of a, and who is
 no-child : (a k : ℕ) (c : Core) → c .live ≡ false → childOf a k c ≡ false
@@ -55,10 +87,17 @@ module _ (s : ℕ → Core) (pl : ℕ → Place) (depth : ℕ → ℕ) (w : Soun
   nonroot : (k : ℕ) → s k .live ≡ false → k ≢ 0
   nonroot k dead e = clash (s 0 .live) (w .root) (rw e at dead)
 
-  -- a dead group has no child
+  -- nobody stands in a dead group
+  stands-live : (l : Place) (a : ℕ) → ((g : ℕ) → l ≡ at g → s g .live ≡ true) → s a .live ≡ false → standsIn l a ≡ false
+  stands-live nowhere a live dead = refl
+  stands-live (at g) a live dead = split (eqb g a) (λ y. clash (s a .live) (rw (eqb-true g a y) at (live g refl)) dead) (λ n. n)
+
+  -- and a dead group has no child
   pub count-dead : (c : Counter) (a : ℕ) → s a .live ≡ false → countOf s pl c a ≡ 0
-  unfolding children
+  unfolding children members
   count-dead (Of r) a dead = amount-dead s pl depth w q r a dead
+  count-dead Members a dead =
+      sum-ext processes _ (λ _. 0) (λ p _. weigh-no _ 1 (stands-live (pl p) a (λ g e. q .group p g e) dead)) ∙ sum-zero processes
   count-dead Children a dead =
       sum-ext groups _ (λ _. 0)
       (λ k _. weigh-no _ 1

@@ -9,6 +9,7 @@ use Rattle.model.specs.Functions.{weigh, sum, member}
 use Rattle.model.specs.Sizes.{groups, processes, largestMachine, largestCharge}
 use Rattle.model.specs.Tree.{Tree, Core, Place, nowhere, at, groupOf, cores, lives, parents, places}
 use Rattle.model.specs.Hierarchy.{childOf, chain, inside, held, ownPages, headcount, usage, population, amount, factsOf}
+use Rattle.model.specs.Rules.{standsIn}
 use Rattle.model.specs.Rooms.{Room, actingLimit, consult, roomFor}
 use Rattle.model.specs.WellFormed.{Sound, WellFormed}
 use Rattle.model.specs.declared.Resource.{Resource}
@@ -18,10 +19,10 @@ use Rattle.model.proofs.ChainLaws.{inside-live, root-inside}
 use Rattle.model.proofs.AmountLaws.{own-within-usage}
 use Rattle.tree.specs.Layout.{view, sumIn}
 use Rattle.tree.specs.Counters.{listed, ChainOf, HasParent, Countable, Adjustable}
-use Rattle.tree.specs.Kept.{children, countIn, Kept, KeptAt}
+use Rattle.tree.specs.Kept.{children, members, countIn, Kept, KeptAt}
 use Rattle.tree.specs.declared.chain.Chain.{Chain}
 use Rattle.tree.specs.declared.sum.Counter.{Counter}
-use Rattle.tree.specs.declared.sum.Counter.the-variants.{Of, Children}
+use Rattle.tree.specs.declared.sum.Counter.the-variants.{Of, Children, Members}
 
 -- A live group has a row.
 pub kept-low : {xs : List ℕ} {g : ℕ} → KeptAt xs g → g < groups
@@ -68,9 +69,14 @@ children-few : (s : ℕ → Core) (a : ℕ) → children s a ≤ groups
 unfolding children
 children-few s a = sum-ones groups _ (λ k. weigh-le (childOf a k (s k)) 1)
 
+members-few : (pl : ℕ → Place) (a : ℕ) → members pl a ≤ processes
+unfolding members
+members-few pl a = sum-ones processes _ (λ p. weigh-le (standsIn (pl p) a) 1)
+
 pub count-small : (t : Tree) → WellFormed t → (c : Counter) (a : ℕ) → countIn t c a ≤ largestMachine
 count-small t w (Of r) a = amount-small t w r a
 count-small t w Children a = omega (arith, children-few (cores t) a)
+count-small t w Members a = omega (arith, members-few (places t) a)
 
 -- The groups of a chain are live.
 on-chain-live : {live : ℕ → Bool} {up depth : ℕ → ℕ} (s : Sound live up depth) (g a : ℕ) → live g ≡ true → member a (chain up g) ≡ true → live a ≡ true

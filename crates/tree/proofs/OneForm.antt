@@ -23,7 +23,7 @@ use Rattle.tree.specs.Layout.{front, machineAt, rowWords, treeWords, wor
 use Rattle.tree.specs.Kept.{countIn, Kept}
 use Rattle.tree.specs.OneForm.{OneForm}
 use Rattle.tree.specs.declared.sum.Counter.{Counter}
-use Rattle.tree.specs.declared.sum.Counter.the-variants.{Of, Children}
+use Rattle.tree.specs.declared.sum.Counter.the-variants.{Of, Children, Members}
 use Rattle.tree.proofs.RowLaws.{process-in}
 
 -- A meaning has one word.
@@ -100,10 +100,11 @@ module _ (v w : ℕ → ℕ) (a : SpareRow v) (b : SpareRow w) (sums : (c : Coun
       ▹ ap (λ (g : Group). g .cpu .weight) e
       ▹ ap (λ (g : Group). g .owner) e
       ▹ ap (λ (g : Group). g .depth) e
+      ▹ ap (λ (g : Group). g .core .own) e
       ▹ limit-word-is _ _ (ap (λ (g : Group). g .core .limit Processes) e)
       ▹ limit-word-is _ _ (ap (λ (g : Group). g .core .limit Pages) e)
-      ▹ ap (λ (g : Group). g .core .own) e
       ▹ ap (λ (g : Group). g .core .parent) e
+      ▹ sums Members
       ▹ sums Children
       ▹ sums (Of Processes)
       ▹ sums (Of Pages)

@@ -1,41 +1,15 @@
--- The tests of the rules, by the getters that they ask; and a test over all numbers, from the last to the first.
--- Assumes nothing.
-use Prim.Native.Nat.{ℕ, suc, _-_, _≤_, _<_}
-use native.Mathlib.Omega.{arith}
+-- The tests of the rules, by the getters that they ask. Assumes nothing.
+use Prim.Native.Nat.{ℕ}
 use mathlib.Core.Bool.{Bool, true, false, not, _&&_}
 use mathlib.Core.Logic.{_≢_}
 use mathlib.Core.Path.{_≡_, refl, ap, sym, _∙_}
 use lib.Dec.{eqb}
 use borrow.Author.Tests.{eq-eqb, ne-eqb}
-use Rattle.model.specs.Functions.{any}
 use Rattle.model.specs.Tree.{Tree, Core, Place, nowhere, at, isLive, groupOf, parents, owners, sets}
 use Rattle.model.specs.Hierarchy.{on, childOf}
 use Rattle.model.specs.Rules.{mayWrite, available, standsIn}
 use Rattle.model.specs.declared.Controller.{Controller}
 use Rattle.model.proofs.FunctionLaws.{clash}
-
--- Over all numbers.
-module _ (f : ℕ → Bool) (left : ℕ) where
-  before : 0 < left → left ≡ suc (left - 1)
-  before h = omega arith
-
-  pub any-here : 0 < left → f (left - 1) ≡ true → true ≡ any left f
-  unfolding any
-  any-here h y = rw (before h, any) (go (left - 1) y)
-    where
-      go : (k : ℕ) → f k ≡ true → true ≡ any (suc k) f
-      go k y = rw (y, any)
-
-  pub any-next : 0 < left → f (left - 1) ≡ false → any (left - 1) f ≡ any left f
-  unfolding any
-  any-next h n = go (left - 1) n ∙ ap (λ k. any k f) (sym (before h))
-    where
-      go : (k : ℕ) → f k ≡ false → any k f ≡ any (suc k) f
-      go k n = rw (n, any)
-
-  pub any-end : left ≤ 0 → false ≡ any left f
-  unfolding any
-  any-end h = let z : left ≡ 0 = omega arith in rw z
 
 -- Permission.
 module _ (t : Tree) (user g : ℕ) where
@@ -61,8 +35,13 @@ module _ (t : Tree) (c : Controller) (g : ℕ) where
 
 -- Children.
 module _ (g k : ℕ) (c : Core) where
-  pub child-dead : c .live ≡ false → false ≡ childOf g k c
-  child-dead d = rw d
+  pub child-of-another : (p : ℕ) → p ≡ c .parent → p ≢ g → false ≡ childOf g k c
+  child-of-another p e ne = rw (ne-eqb (c .parent) g (λ d. ne (e ∙ d))) (go (c .live) (eqb k 0))
+    where
+      go : (a b : Bool) → false ≡ (a && (not b && false))
+      go true true = refl
+      go true false = refl
+      go false b = refl
 
   pub child-root : k ≡ 0 → false ≡ childOf g k c
   child-root z = go (c .live) (eqb (c .parent) g) ∙ ap (λ b. c .live && (not b && eqb (c .parent) g)) (sym (eq-eqb k 0 z))
@@ -71,14 +50,12 @@ module _ (g k : ℕ) (c : Core) where
       go true b = refl
       go false b = refl
 
-  pub child-other : c .live ≡ true → k ≢ 0 → (p : ℕ) → p ≡ c .parent → eqb p g ≡ childOf g k c
-  child-other l nz p e = rw (l, ne-eqb k 0 nz, e)
-
-pub holds-not : (a b : Bool) → a ≡ false → false ≡ (a && b)
-holds-not a b e = rw e
-
-pub holds-then : (a b d : Bool) → a ≡ true → d ≡ b → d ≡ (a && b)
-holds-then a b d e f = rw e f
+  pub child-if-live : (p : ℕ) → p ≡ c .parent → p ≡ g → k ≢ 0 → (b : Bool) → b ≡ c .live → b ≡ childOf g k c
+  child-if-live p e d nz b f = rw (eq-eqb (c .parent) g (sym e ∙ d), ne-eqb k 0 nz) (f ∙ go (c .live))
+    where
+      go : (a : Bool) → a ≡ (a && true)
+      go true = refl
+      go false = refl
 
 -- Processes.
 pub stands-free : (l : Place) (g : ℕ) → isLive l ≡ false → false ≡ standsIn l g

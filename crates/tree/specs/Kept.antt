@@ -6,23 +6,29 @@ use mathlib.Core.List.{List}
 use mathlib.Core.Path.{_≡_}
 use lib.ListN.{length}
 use Rattle.model.specs.Functions.{weigh, sum}
-use Rattle.model.specs.Sizes.{groups}
+use Rattle.model.specs.Sizes.{groups, processes}
 use Rattle.model.specs.Tree.{Tree, Core, Place, lives, cores, places}
 use Rattle.model.specs.Hierarchy.{amount, childOf}
+use Rattle.model.specs.Rules.{standsIn}
 use Rattle.model.specs.Effects.{fresh}
 use Rattle.model.specs.WellFormed.{WellFormed}
 use Rattle.tree.specs.Layout.{treeWords, view, sumIn, Spare}
 use Rattle.tree.specs.declared.sum.Counter.{Counter}
-use Rattle.tree.specs.declared.sum.Counter.the-variants.{Of, Children}
+use Rattle.tree.specs.declared.sum.Counter.the-variants.{Of, Children, Members}
 
 -- the live children of a group
 unfoldable pub children : (ℕ → Core) → ℕ → ℕ
 children cs a = sum groups (λ k. weigh (childOf a k (cs k)) 1)
 
+-- the live processes that stand in a group itself
+unfoldable pub members : (ℕ → Place) → ℕ → ℕ
+members ps a = sum processes (λ p. weigh (standsIn (ps p) a) 1)
+
 -- what a counter counts in a group
 abbrev pub countOf : (ℕ → Core) → (ℕ → Place) → Counter → ℕ → ℕ
 countOf cs ps (Of r) = amount cs ps r
 countOf cs ps Children = children cs
+countOf cs ps Members = members ps
 
 abbrev pub countIn : Tree → Counter → ℕ → ℕ
 countIn t = countOf (cores t) (places t)

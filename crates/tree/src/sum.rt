@@ -1,5 +1,5 @@
 // The counts in a group's row: what stands inside the group, as Linux's page counters count pages up the hierarchy, and its live
-// children.
+// children and the live processes in it, which are counted there alone.
 ghost use mathlib.Core.Path.{_≡_};
 ghost use Prim.Native.Nat.{_<_};
 ghost use Rattle.model.specs.Sizes.{groups};
@@ -8,6 +8,7 @@ use super::layout::FRONT;
 use super::layout::ROW;
 use super::layout::Tree;
 use super::row::CHILDREN;
+use super::row::MEMBERS;
 use super::row::PAGE_SUM;
 use super::row::PROCESS_SUM;
 use super::row::set_word;
@@ -20,6 +21,8 @@ pub enum Counter {
     Of(Resource),
     // the live children of the group, and of no group below it
     Children,
+    // the live processes that stand in the group itself
+    Members,
 }
 
 fn sum_field(c: Counter) -> usize
@@ -31,6 +34,7 @@ fn sum_field(c: Counter) -> usize
             Resource::Processes => PROCESS_SUM,
         },
         Counter::Children => CHILDREN,
+        Counter::Members => MEMBERS,
     }
 }
 

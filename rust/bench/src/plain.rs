@@ -3,19 +3,28 @@
 
 mod devices;
 
+use shootspiral::number::{
+    LAST_GROUP, LAST_PROCESS, LONGEST_IO_MAX, LONGEST_REPLY, MAX_DEPTH, MAX_LINE,
+    MAX_MACHINE_PAGES, MAX_PAGES, PAGE_BYTES,
+};
 use shootspiral_check::Calls;
 
 use self::Errno::*;
 use self::devices::{Change, Device, Devices, KEYS};
 
-const GROUPS: usize = 64;
-const PROCESSES: usize = 257;
-const MAX_DEPTH: u8 = 8;
-const MAX_PAGES: u64 = 1 << 20;
-const MAX_LINE: usize = 128;
-const PAGE_SHIFT: u32 = 12;
-const LONGEST_REPLY: usize = 916;
+const GROUPS: usize = LAST_GROUP.0 as usize + 1;
+/// One more than there are: process 0 is never live.
+const PROCESSES: usize = LAST_PROCESS.0 as usize + 1;
+const PAGE_SHIFT: u32 = PAGE_BYTES.ilog2();
 const NO_GROUP: u64 = u64::MAX;
+
+/// The most bytes of a membership line: "0::", a "/" and a number at each depth, a newline.
+const LONGEST_MEMBERSHIP: usize = 4 + MAX_DEPTH as usize * (2 + LAST_GROUP.0.ilog10() as usize);
+/// More bytes than any other file has, but cgroup.procs and io.max.
+const LONGEST_VALUE: usize = 32;
+
+// A group's parent and depth, and a process's group, are kept in a byte each.
+const _: () = assert!(GROUPS <= 256 && MAX_DEPTH < 256);
 
 #[derive(Clone, Copy)]
 #[repr(u32)]
@@ -113,7 +122,14 @@ struct Group {
 }
 
 impl Group {
-    fn new(parent: u8, depth: u8, owner: u32) -> Group {
+    const FREE: Group = Group { is_live: false, ..Group::new(0, 0, 0) };
+
+    fn root(machine_pages: u64) -> Group {
+        let machine = machine_pages.min(MAX_MACHINE_PAGES);
+        Group { memory_max: Some(machine), ..Group::new(0, 0, 0) }
+    }
+
+    const fn new(parent: u8, depth: u8, owner: u32) -> Group {
         Group {
             is_live: true,
             parent,
@@ -161,6 +177,17 @@ pub struct Plain {
 }
 
 impl Plain {
+    /// Writes a fresh tree over this one.
+    #[inline(never)]
+    pub fn renew(&mut self, machine_pages: u64) {
+        self.groups.fill(Group::FREE);
+        self.groups[0] = Group::root(machine_pages);
+        for devices in &mut self.devices {
+            devices.clear();
+        }
+        self.processes.fill(None);
+    }
+
     fn live(&self, group: u64) -> Done<&Group> {
         let found = self.groups.get(group as usize).ok_or(Einval)?;
         if found.is_live { Ok(found) } else { Err(Enoent) }
@@ -248,7 +275,7 @@ impl Plain {
         if !self.may_write(user, parent as usize) {
             return Err(Eacces);
         }
-        if depth == MAX_DEPTH {
+        if u64::from(depth) == MAX_DEPTH {
             return Err(Eagain);
         }
         self.groups[group as usize] = Group::new(parent as u8, depth + 1, user);
@@ -457,18 +484,44 @@ impl Plain {
         Ok(())
     }
 
-    fn contents(&self, group: u64, file: &[u8], text: &mut Text) -> Done {
-        let g = self.live(group)?;
+    fn try_read(&self, group: u64, file: &[u8], reply: &mut [u8]) -> Done<u64> {
+        self.live(group)?;
         let group = group as usize;
-        let on = self.on(group);
         match file {
             b"cgroup.procs" => {
-                for (process, slot) in self.processes.iter().enumerate() {
-                    if slot.is_some_and(|kept| kept.group as usize == group) {
-                        text.figure(process as u64, b'\n');
-                    }
-                }
+                let mut text = Text::<LONGEST_REPLY>::new();
+                self.members(group, &mut text);
+                text.deliver(reply)
             }
+            b"io.max" if self.on(group).has(Controller::Io) => {
+                let mut text = Text::<LONGEST_IO_MAX>::new();
+                for device in self.devices[group].held() {
+                    text.device(device);
+                }
+                text.deliver(reply)
+            }
+            _ => {
+                let mut text = Text::<LONGEST_VALUE>::new();
+                self.value(group, file, &mut text)?;
+                text.deliver(reply)
+            }
+        }
+    }
+
+    /// The processes of the group itself. It looks no further than the last of them.
+    fn members(&self, group: usize, text: &mut Text<LONGEST_REPLY>) {
+        let is_here = |kept: &Process| kept.group as usize == group;
+        let all = self.processes.iter().enumerate();
+        let here = all.filter(|(_, process)| process.as_ref().is_some_and(is_here));
+        for (process, _) in here.take(self.groups[group].members as usize) {
+            text.figure(process as u64, b'\n');
+        }
+    }
+
+    fn value(&self, group: usize, file: &[u8], text: &mut Text<LONGEST_VALUE>) -> Done {
+        let g = &self.groups[group];
+        let on = self.on(group);
+        match file {
             b"cgroup.controllers" => text.names(self.available(group)),
             b"cgroup.subtree_control" => text.names(g.set),
             b"cgroup.events" if group != 0 => {
@@ -487,17 +540,12 @@ impl Plain {
                 text.limit(g.cpu_max, b' ');
                 text.figure(g.cpu_period, b'\n');
             }
-            b"io.max" if on.has(Controller::Io) => {
-                for device in self.devices[group].held() {
-                    text.device(device);
-                }
-            }
             _ => return Err(Enoent),
         }
         Ok(())
     }
 
-    fn path(&self, group: usize, text: &mut Text) {
+    fn path(&self, group: usize, text: &mut Text<LONGEST_MEMBERSHIP>) {
         if group != 0 {
             self.path(self.groups[group].parent as usize, text);
             text.bytes(b"/");
@@ -505,7 +553,7 @@ impl Plain {
         }
     }
 
-    fn membership_line(&self, process: u64, text: &mut Text) -> Done {
+    fn membership_line(&self, process: u64, text: &mut Text<LONGEST_MEMBERSHIP>) -> Done {
         let group = self.process(process)?.group as usize;
         text.bytes(b"0::");
         if group == 0 {
@@ -517,15 +565,15 @@ impl Plain {
     }
 }
 
-/// A reply in the making.
-struct Text {
-    bytes: [u8; LONGEST_REPLY],
+/// A reply in the making, in an array that is no larger than it has to be.
+struct Text<const ROOM: usize> {
+    bytes: [u8; ROOM],
     length: usize,
 }
 
-impl Text {
-    fn new() -> Text {
-        Text { bytes: [0; LONGEST_REPLY], length: 0 }
+impl<const ROOM: usize> Text<ROOM> {
+    fn new() -> Text<ROOM> {
+        Text { bytes: [0; ROOM], length: 0 }
     }
 
     fn bytes(&mut self, bytes: &[u8]) {
@@ -661,11 +709,10 @@ fn replied(length: Done<u64>, told: &mut [u64; 1]) -> u32 {
 /// Each call is kept out of line, as a call of the library is.
 impl Calls for Plain {
     fn fresh(machine_pages: u64) -> Plain {
-        let free = Group { is_live: false, ..Group::new(0, 0, 0) };
-        let mut groups = [free; GROUPS];
-        let machine = machine_pages.min(1 << 40);
-        groups[0] = Group { memory_max: Some(machine), ..Group::new(0, 0, 0) };
-        Plain { groups, devices: [Devices::NONE; GROUPS], processes: [None; PROCESSES] }
+        let (groups, devices) = ([Group::FREE; GROUPS], [Devices::NONE; GROUPS]);
+        let mut plain = Plain { groups, devices, processes: [None; PROCESSES] };
+        plain.groups[0] = Group::root(machine_pages);
+        plain
     }
 
     #[inline(never)]
@@ -725,9 +772,7 @@ impl Calls for Plain {
 
     #[inline(never)]
     fn read(&self, group: u64, file: &[u8], reply: &mut [u8], told: &mut [u64; 1]) -> u32 {
-        let mut text = Text::new();
-        let length = self.contents(group, file, &mut text).and_then(|()| text.deliver(reply));
-        replied(length, told)
+        replied(self.try_read(group, file, reply), told)
     }
 
     #[inline(never)]

@@ -1,30 +1,37 @@
-//! The tree that is timed, and the calls that are timed on it. A tree of 64 groups, each below the
-//! root with all controllers on, both limits set and three devices in io.max, in four columns that go
-//! down to depth 8:
+//! The trees that are timed, and how calls are timed on them.
+//!
+//! The full tree has every group that there can be, each below the root with all controllers on,
+//! both limits set and three devices in io.max, in four columns that go down to the last depth:
 //!
 //! ```text
 //! 0
 //! └ column's top, owned by user 1000 + column
-//!   └ .. six more, one below the other
+//!   └ .. down to the last depth but one
 //!     ├ leaf with processes
-//!     └ .. 8 or 9 leaves in all
+//!     └ .. a quarter of what groups are left
 //! ```
+//!
+//! A lone column has room for groups and processes, so that each call of a pair that does and undoes
+//! can be timed alone. Families are for the controllers of a group that has few children.
 
 use std::hint::black_box;
+use std::sync::LazyLock;
 use std::time::{Duration, Instant};
 
-use shootspiral_check::Calls;
+use shootspiral::number::{LAST_GROUP, LAST_PROCESS, MAX_DEPTH};
+use shootspiral::sys;
+use shootspiral_check::{Calls, Linked};
+
+use crate::plain::Plain;
 
 const COLUMNS: u64 = 4;
-const INNER_DEPTH: u64 = 7;
-const GROUPS: u64 = 64;
-const PROCESSES: u64 = 256;
 const MACHINE: u64 = 1 << 30;
+const CONTROLLERS: &[u8] = b"+cpu +io +memory +pids";
 
 /// Kept without processes, so that it can be removed and made again.
-pub const SPARE_GROUP: u64 = 63;
+pub const SPARE_GROUP: u64 = LAST_GROUP.0;
 /// Kept free, so that it can be forked to.
-pub const SPARE_PROCESS: u64 = 256;
+pub const SPARE_PROCESS: u64 = LAST_PROCESS.0;
 
 /// What is written to io.max of every group.
 const DEVICES: [&[u8]; 3] = [
@@ -43,6 +50,8 @@ pub struct Layout {
     pub place: Vec<u64>,
     /// The column of each process.
     pub column: Vec<u64>,
+    /// The owner of each group.
+    pub owner: Vec<u32>,
     /// The group that the spare one is made under.
     pub above_spare: u64,
 }
@@ -52,48 +61,45 @@ pub fn owner(column: u64) -> u32 {
     1000 + column as u32
 }
 
-/// Builds the full tree. All 64 groups are live, and all processes but the spare one.
+/// Builds the full tree. All groups are live, and all processes but the spare one.
 pub fn full_tree<H: Calls>() -> (H, Layout) {
     let mut host = H::fresh(MACHINE);
     let mut layout = Layout {
         leaves: vec![vec![]; COLUMNS as usize],
-        place: vec![0; PROCESSES as usize + 1],
-        column: vec![0; PROCESSES as usize + 1],
+        place: vec![0; SPARE_PROCESS as usize + 1],
+        column: vec![0; SPARE_PROCESS as usize + 1],
+        owner: vec![0],
         above_spare: 0,
     };
-    let controllers = b"+cpu +io +memory +pids";
-    must(host.write_subtree_control(0, 0, controllers));
+    must(host.write_subtree_control(0, 0, CONTROLLERS));
     let mut next = 1;
     let mut bottoms = vec![];
     for column in 0..COLUMNS {
         let mut above = 0;
-        for _ in 0..INNER_DEPTH {
+        for _ in 1..MAX_DEPTH {
             must(host.make(0, above, next));
             must(host.hand_over(0, next, owner(column)));
-            must(host.write_subtree_control(0, next, controllers));
+            must(host.write_subtree_control(0, next, CONTROLLERS));
+            layout.owner.push(owner(column));
             (above, next) = (next, next + 1);
         }
         bottoms.push(above);
     }
-    while next < GROUPS {
-        let column = next % COLUMNS;
+    for group in next..=SPARE_GROUP {
+        let column = group % COLUMNS;
         let above = bottoms[column as usize];
-        must(host.make(owner(column), above, next));
-        if next == SPARE_GROUP {
+        must(host.make(owner(column), above, group));
+        layout.owner.push(owner(column));
+        if group == SPARE_GROUP {
             layout.above_spare = above;
         } else {
-            layout.leaves[column as usize].push(next);
-        }
-        next += 1;
-    }
-    for group in 1..GROUPS {
-        must(host.write_setting(0, group, b"memory.max", b"1099511627776"));
-        must(host.write_setting(0, group, b"pids.max", b"1000"));
-        for device in DEVICES {
-            must(host.write_setting(0, group, b"io.max", device));
+            layout.leaves[column as usize].push(group);
         }
     }
-    for process in 1..PROCESSES {
+    for group in 1..=SPARE_GROUP {
+        set_limits(&mut host, group);
+    }
+    for process in 1..SPARE_PROCESS {
         let column = process % COLUMNS;
         let leaves = &layout.leaves[column as usize];
         let leaf = leaves[(process / COLUMNS) as usize % leaves.len()];
@@ -103,6 +109,106 @@ pub fn full_tree<H: Calls>() -> (H, Layout) {
         layout.column[process as usize] = column;
     }
     (host, layout)
+}
+
+/// Both limits, with room for all that there can be, and three devices.
+fn set_limits<H: Calls>(host: &mut H, group: u64) {
+    must(host.write_setting(0, group, b"memory.max", b"1099511627776"));
+    must(host.write_setting(0, group, b"pids.max", SPARE_PROCESS.to_string().as_bytes()));
+    for device in DEVICES {
+        must(host.write_setting(0, group, b"io.max", device));
+    }
+}
+
+/// The deepest group of the lone column and its parent.
+pub const LONE_LEAF: u64 = MAX_DEPTH;
+pub const ABOVE_LONE_LEAF: u64 = MAX_DEPTH - 1;
+
+/// How many groups can be made beside the leaf of the lone column, and how many processes beside
+/// process 1: as many in a small tree as in a large one.
+pub const ROOM_FOR_GROUPS: u64 = 50;
+pub const ROOM_FOR_PROCESSES: u64 = 200;
+const _: () = assert!(LONE_LEAF + ROOM_FOR_GROUPS <= LAST_GROUP.0);
+const _: () = assert!(ROOM_FOR_PROCESSES < LAST_PROCESS.0);
+
+/// Builds one column alone, with process 1 in its leaf. Groups and processes after these are free.
+pub fn lone_column<H: Calls>() -> H {
+    let mut host = H::fresh(MACHINE);
+    for above in 0..MAX_DEPTH {
+        must(host.write_subtree_control(0, above, CONTROLLERS));
+        must(host.make(0, above, above + 1));
+        set_limits(&mut host, above + 1);
+    }
+    must(host.admit(1, owner(0)));
+    must(host.write_procs(0, LONE_LEAF, b"1"));
+    host
+}
+
+/// A family is a group below the root and its two children.
+const FAMILY: u64 = 3;
+const FAMILIES: u64 = LAST_GROUP.0 / FAMILY;
+
+/// So many of them are timed, in a small tree as in a large one.
+pub const TIMED_FAMILIES: u64 = 20;
+const _: () = assert!(TIMED_FAMILIES <= FAMILIES);
+
+/// The group of a family that is the children's parent.
+pub fn head(family: u64) -> u64 {
+    1 + FAMILY * family
+}
+
+/// Builds a tree of as many families as there can be, with all processes in the children. Every
+/// controller is on in the heads, which have empty sets.
+pub fn families<H: Calls>() -> H {
+    let mut host = H::fresh(MACHINE);
+    let mut children = vec![];
+    must(host.write_subtree_control(0, 0, CONTROLLERS));
+    for head in (0..FAMILIES).map(head) {
+        must(host.make(0, 0, head));
+        for child in head + 1..head + FAMILY {
+            must(host.make(0, head, child));
+            children.push(child);
+        }
+    }
+    for process in 1..=LAST_PROCESS.0 {
+        let child = children[process as usize % children.len()];
+        must(host.admit(process, owner(0)));
+        must(host.write_procs(0, child, process.to_string().as_bytes()));
+    }
+    host
+}
+
+/// A host that writes a fresh tree to memory it is lent, so that no allocation is timed.
+pub trait Renewed: Calls {
+    type Memory;
+
+    fn room() -> Self::Memory;
+    fn renew(memory: &mut Self::Memory);
+}
+
+impl Renewed for Linked {
+    type Memory = Box<[u64]>;
+
+    fn room() -> Box<[u64]> {
+        vec![0; sys::ss_tree_words() as usize].into_boxed_slice()
+    }
+
+    fn renew(memory: &mut Box<[u64]>) {
+        // SAFETY: the memory has as many words as the library asks for.
+        unsafe { sys::ss_fresh(memory.as_mut_ptr(), MACHINE) };
+    }
+}
+
+impl Renewed for Plain {
+    type Memory = Box<Plain>;
+
+    fn room() -> Box<Plain> {
+        Box::new(Plain::fresh(0))
+    }
+
+    fn renew(memory: &mut Box<Plain>) {
+        memory.renew(MACHINE);
+    }
 }
 
 pub fn must(number: u32) {
@@ -129,10 +235,22 @@ impl Run {
         }
     }
 
+    /// This run, if every answer in it was 0: a run of refusals would time another thing.
+    pub fn accepted(self) -> Run {
+        assert_eq!(self.digest, 0, "the calls are such that succeed");
+        self
+    }
+
     pub fn ns_per_call(&self) -> f64 {
         self.time.as_nanos() as f64 / self.calls as f64
     }
 }
+
+/// What the clock takes itself. It is taken off, as it would show in a batch of few calls.
+static CLOCK: LazyLock<Duration> = LazyLock::new(|| {
+    let once = |_| Instant::now().elapsed();
+    (0..10_000).map(once).min().unwrap_or_default()
+});
 
 /// Times so many rounds of some calls. A round answers a word for the digest.
 pub fn time(rounds: u64, calls_per_round: u64, mut round: impl FnMut(u64) -> u64) -> Run {
@@ -141,7 +259,25 @@ pub fn time(rounds: u64, calls_per_round: u64, mut round: impl FnMut(u64) -> u64
     for number in 0..rounds {
         digest = digest.rotate_left(7) ^ black_box(round(number));
     }
-    Run { time: start.elapsed(), calls: rounds * calls_per_round, digest }
+    let time = start.elapsed().saturating_sub(*CLOCK);
+    Run { time, calls: rounds * calls_per_round, digest }
+}
+
+/// Times batches of calls, and apart from them the calls that undo each batch.
+pub fn time_apart<H>(
+    host: &mut H,
+    batches: u64,
+    batch: u64,
+    does: impl Fn(&mut H, u64) -> u32,
+    undoes: impl Fn(&mut H, u64) -> u32,
+) -> (Run, Run) {
+    let mut sums = (Run::NONE, Run::NONE);
+    for _ in 0..batches {
+        let done = time(batch, 1, |place| u64::from(does(host, place)));
+        let undone = time(batch, 1, |place| u64::from(undoes(host, place)));
+        sums = (sums.0.and(done.accepted()), sums.1.and(undone.accepted()));
+    }
+    sums
 }
 
 /// One word of a number and what was told.
@@ -167,7 +303,7 @@ pub fn charges(layout: &Layout, count: usize) -> Vec<Charge> {
         state
     };
     let charge = |_| {
-        let process = next() % (PROCESSES - 1) + 1;
+        let process = next() % (SPARE_PROCESS - 1) + 1;
         let pages = next() % 16 + 1;
         Charge { process, group: layout.place[process as usize], pages }
     };

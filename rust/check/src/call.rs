@@ -3,6 +3,7 @@
 use std::fmt;
 
 use crate::calls::Calls;
+use crate::model::{number, words};
 
 /// One call with its arguments. A read or a membership line gets a reply buffer of `room` bytes.
 #[derive(Clone, PartialEq, Eq)]
@@ -74,6 +75,42 @@ impl Call {
             | Call::WriteSubtreeControl { user, .. }
             | Call::WriteSetting { user, .. }
             | Call::Admit { user, .. } => vec![*user],
+            _ => vec![],
+        }
+    }
+
+    /// The groups that the call names.
+    pub fn groups(&self) -> Vec<u64> {
+        match self {
+            Call::Make { parent, group, .. } => vec![*parent, *group],
+            Call::Remove { group, .. }
+            | Call::HandOver { group, .. }
+            | Call::WriteProcs { group, .. }
+            | Call::WriteSubtreeControl { group, .. }
+            | Call::WriteSetting { group, .. }
+            | Call::Release { group, .. }
+            | Call::Read { group, .. } => vec![*group],
+            Call::Admit { .. }
+            | Call::Fork { .. }
+            | Call::Exit { .. }
+            | Call::Charge { .. }
+            | Call::Membership { .. }
+            | Call::FirstBadWord { .. } => vec![],
+        }
+    }
+
+    /// The processes that the call names, by a line of cgroup.procs too.
+    pub fn processes(&self) -> Vec<u64> {
+        match self {
+            Call::Admit { process, .. }
+            | Call::Exit { process }
+            | Call::Charge { process, .. }
+            | Call::Membership { process, .. } => vec![*process],
+            Call::Fork { parent, process } => vec![*parent, *process],
+            Call::WriteProcs { line, .. } => {
+                let numbers = words(line).into_iter().filter_map(number);
+                numbers.filter_map(|number| u64::try_from(number).ok()).collect()
+            }
             _ => vec![],
         }
     }

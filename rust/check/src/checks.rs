@@ -46,15 +46,15 @@ macro_rules! checks {
 
 checks! {
     make {
-        22 PARENT_ABOVE_63 "parent above 63",
-        22 NEW_ABOVE_63 "new above 63",
+        22 PARENT_ABOVE_LAST "parent above 255",
+        22 NEW_ABOVE_LAST "new above 255",
         2 PARENT_NOT_LIVE "parent not live",
         17 NEW_IS_LIVE "new is live",
         13 MAY_NOT_WRITE_PARENT "may not write parent",
-        11 PARENT_AT_DEPTH_8 "parent at depth 8",
+        11 PARENT_DEEPEST "parent at depth 16",
     }
     remove {
-        22 ABOVE_63 "above 63",
+        22 ABOVE_LAST "above 255",
         2 NOT_LIVE "not live",
         13 MAY_NOT_WRITE_PARENT "may not write G's parent",
         13 ROOT_NOT_USER_0 "for the root: not user 0",
@@ -64,12 +64,12 @@ checks! {
     }
     hand_over {
         22 IS_ROOT "G is 0",
-        22 ABOVE_63 "above 63",
+        22 ABOVE_LAST "above 255",
         2 NOT_LIVE "not live",
         13 NOT_USER_0 "user is not 0",
     }
     write_procs {
-        22 ABOVE_63 "above 63",
+        22 ABOVE_LAST "above 255",
         2 NOT_LIVE "not live",
         13 MAY_NOT_WRITE "may not write G",
         22 LONG_LINE "line of more than 128 bytes",
@@ -77,14 +77,14 @@ checks! {
         22 MORE_WORDS "more than one word",
         22 NOT_A_NUMBER "word is not a number word",
         22 IS_0 "is 0",
-        3 ABOVE_256 "above 256",
+        3 PROCESS_ABOVE_LAST "above 1024",
         3 PROCESS_NOT_LIVE "process not live",
         13 NOT_ITS_USER "not the process's user",
         13 MAY_NOT_WRITE_LOWEST "may not write the lowest group on both chains",
         16 HAS_SET "G is not the root and its set is not empty",
     }
     write_subtree_control {
-        22 ABOVE_63 "above 63",
+        22 ABOVE_LAST "above 255",
         2 NOT_LIVE "not live",
         13 MAY_NOT_WRITE "may not write G",
         22 LONG_LINE "line of more than 128 bytes",
@@ -94,7 +94,7 @@ checks! {
         16 HOLDS_PROCESS "not the root, holds a live process, a controller joins",
     }
     write_setting {
-        22 ABOVE_63 "above 63",
+        22 ABOVE_LAST "above 255",
         2 NOT_LIVE "not live",
         2 NOT_A_SETTING "not one of the five settings",
         2 NOT_ON "its controller not on",
@@ -113,23 +113,23 @@ checks! {
     }
     admit {
         22 IS_0 "is 0",
-        22 ABOVE_256 "above 256",
+        22 ABOVE_LAST "above 1024",
         17 IS_LIVE "live",
     }
     fork {
-        3 PARENT_OUTSIDE "parent outside 1 to 256",
+        3 PARENT_OUTSIDE "parent outside 1 to 1024",
         3 PARENT_NOT_LIVE "parent not live",
         22 NEW_IS_0 "new is 0",
-        22 NEW_ABOVE_256 "new above 256",
+        22 NEW_ABOVE_LAST "new above 1024",
         17 NEW_IS_LIVE "new is live",
         11 PIDS_LIMIT "a group on the chain would pass pids.max",
     }
     exit {
-        3 OUTSIDE "outside 1 to 256",
+        3 OUTSIDE "outside 1 to 1024",
         3 NOT_LIVE "not live",
     }
     charge {
-        3 OUTSIDE "outside 1 to 256",
+        3 OUTSIDE "outside 1 to 1024",
         3 NOT_LIVE "not live",
         22 NO_PAGES "no pages",
         22 TOO_MANY_PAGES "pages above 1048576",
@@ -137,14 +137,14 @@ checks! {
         12 MACHINE_SIZE "the root would pass the machine size",
     }
     release {
-        22 ABOVE_63 "above 63",
+        22 ABOVE_LAST "above 255",
         22 NO_PAGES "no pages",
         22 TOO_MANY_PAGES "pages above 1048576",
         2 NOT_LIVE "not live",
         34 MORE_THAN_OWN "more than G's own pages",
     }
     read {
-        22 ABOVE_63 "above 63",
+        22 ABOVE_LAST "above 255",
         2 NOT_LIVE "not live",
         2 NO_SUCH_FILE "no such file",
         2 EVENTS_ON_ROOT "cgroup.events on the root",
@@ -152,7 +152,7 @@ checks! {
         28 SHORT_BUFFER "buffer shorter than the reply",
     }
     membership {
-        3 OUTSIDE "outside 1 to 256",
+        3 OUTSIDE "outside 1 to 1024",
         3 NOT_LIVE "not live",
         28 SHORT_BUFFER "buffer shorter than the reply",
     }
@@ -161,36 +161,36 @@ checks! {
 /// Checks of one call that never hold together: any of the first with any of the second, and why.
 const NEVER: &[(&[&Check], &[&Check], &str)] = &[
     (
-        &[make::PARENT_ABOVE_63, make::PARENT_NOT_LIVE],
-        &[make::PARENT_AT_DEPTH_8],
+        &[make::PARENT_ABOVE_LAST, make::PARENT_NOT_LIVE],
+        &[make::PARENT_DEEPEST],
         "what is not live has no depth",
     ),
-    (&[make::NEW_ABOVE_63], &[make::NEW_IS_LIVE], "none above 63 is live"),
+    (&[make::NEW_ABOVE_LAST], &[make::NEW_IS_LIVE], "none above 255 is live"),
     (
-        &[remove::ABOVE_63, remove::NOT_LIVE],
+        &[remove::ABOVE_LAST, remove::NOT_LIVE],
         &[remove::ROOT_NOT_USER_0, remove::IS_ROOT],
         "the root is live",
     ),
     (
-        &[remove::ABOVE_63, remove::NOT_LIVE],
+        &[remove::ABOVE_LAST, remove::NOT_LIVE],
         &[remove::HAS_CHILD, remove::HAS_PROCESS],
         "what is not live holds nothing",
     ),
     (&[remove::MAY_NOT_WRITE_PARENT], &[remove::IS_ROOT], "the root has no parent"),
     (&[hand_over::IS_ROOT], &[hand_over::NOT_LIVE], "the root is live"),
     (
-        &[write_procs::ABOVE_63, write_procs::NOT_LIVE],
+        &[write_procs::ABOVE_LAST, write_procs::NOT_LIVE],
         &[write_procs::HAS_SET],
         "what is not live has no set",
     ),
     (
         &[write_procs::NO_WORD, write_procs::MORE_WORDS, write_procs::NOT_A_NUMBER],
-        &[write_procs::ABOVE_256, write_procs::PROCESS_NOT_LIVE],
+        &[write_procs::PROCESS_ABOVE_LAST, write_procs::PROCESS_NOT_LIVE],
         "no number is named",
     ),
-    (&[write_procs::IS_0], &[write_procs::ABOVE_256], "0 is not above 256"),
+    (&[write_procs::IS_0], &[write_procs::PROCESS_ABOVE_LAST], "0 is not above 1024"),
     (
-        &[write_subtree_control::ABOVE_63, write_subtree_control::NOT_LIVE],
+        &[write_subtree_control::ABOVE_LAST, write_subtree_control::NOT_LIVE],
         &[
             write_subtree_control::NOT_AVAILABLE,
             write_subtree_control::IN_CHILDS_SET,
@@ -199,7 +199,7 @@ const NEVER: &[(&[&Check], &[&Check], &str)] = &[
         "what is not live holds nothing and lacks nothing",
     ),
     (
-        &[write_setting::ABOVE_63, write_setting::NOT_LIVE],
+        &[write_setting::ABOVE_LAST, write_setting::NOT_LIVE],
         &[write_setting::NOT_ON],
         "where nothing is live nothing is off",
     ),
@@ -234,7 +234,7 @@ const NEVER: &[(&[&Check], &[&Check], &str)] = &[
         "a period is no pair",
     ),
     (
-        &[write_setting::ABOVE_63, write_setting::NOT_LIVE, write_setting::NOT_ON],
+        &[write_setting::ABOVE_LAST, write_setting::NOT_LIVE, write_setting::NOT_ON],
         &[write_setting::FIFTH_DEVICE],
         "where io is not on no device is held",
     ),
@@ -255,13 +255,17 @@ const NEVER: &[(&[&Check], &[&Check], &str)] = &[
         &[write_setting::PERIOD_RANGE],
         "a malformed word is no figure",
     ),
-    (&[admit::IS_0, admit::ABOVE_256], &[admit::IS_LIVE], "none outside 1 to 256 is live"),
+    (&[admit::IS_0, admit::ABOVE_LAST], &[admit::IS_LIVE], "none outside 1 to 1024 is live"),
     (
         &[fork::PARENT_OUTSIDE, fork::PARENT_NOT_LIVE],
         &[fork::PIDS_LIMIT],
         "what is not live has no chain",
     ),
-    (&[fork::NEW_IS_0, fork::NEW_ABOVE_256], &[fork::NEW_IS_LIVE], "none outside 1 to 256 is live"),
+    (
+        &[fork::NEW_IS_0, fork::NEW_ABOVE_LAST],
+        &[fork::NEW_IS_LIVE],
+        "none outside 1 to 1024 is live",
+    ),
     (
         &[charge::OUTSIDE, charge::NOT_LIVE],
         &[charge::MEMORY_LIMIT, charge::MACHINE_SIZE],
@@ -269,10 +273,10 @@ const NEVER: &[(&[&Check], &[&Check], &str)] = &[
     ),
     (&[charge::NO_PAGES], &[charge::MACHINE_SIZE], "usage never passes the machine size"),
     (&[release::NO_PAGES], &[release::MORE_THAN_OWN], "0 is never more"),
-    (&[read::ABOVE_63], &[read::EVENTS_ON_ROOT], "0 is not above 63"),
-    (&[read::ABOVE_63, read::NOT_LIVE], &[read::NOT_ON], "where nothing is live nothing is off"),
+    (&[read::ABOVE_LAST], &[read::EVENTS_ON_ROOT], "0 is not above 255"),
+    (&[read::ABOVE_LAST, read::NOT_LIVE], &[read::NOT_ON], "where nothing is live nothing is off"),
     (
-        &[read::ABOVE_63, read::NOT_LIVE, read::NO_SUCH_FILE],
+        &[read::ABOVE_LAST, read::NOT_LIVE, read::NO_SUCH_FILE],
         &[read::SHORT_BUFFER],
         "there is no text",
     ),

@@ -1,27 +1,31 @@
 //! A list of calls, two for each pair of checks that can hold in one call: on a tree where every
 //! check can, all arguments of a short list each are tried with all others. Dice come to most pairs;
-//! this leaves none to them. On the same tree go on the lists of [`sizes`], [`names`], [`depths`] and
-//! [`devices`].
+//! this leaves none to them. On the same tree go on the lists of [`sizes`], [`names`], [`depths`],
+//! [`effects`] and [`devices`].
 
 use std::collections::BTreeMap;
 
 use crate::call::Call;
 use crate::calls::Calls;
 use crate::checks::{Check, TABLE, besides, never, with};
-use crate::compare::FILES;
-use crate::model::Model;
-use crate::{depths, devices, names, sizes};
+use crate::compare::{FILES, ROOM};
+use crate::model::{DEEPEST, LAST_GROUP, LAST_PROCESS, Model};
+use crate::{depths, devices, effects, names, sizes};
 
 pub const MACHINE: u64 = 64;
 
-/// Some that are in `tree`, one that is not live, and two above 63.
-const GROUPS: [u64; 11] = [0, 1, 2, 3, 4, 5, 10, 17, 63, 64, u64::MAX];
-const PROCESSES: [u64; 6] = [0, 5, 6, 9, 77, 257];
+/// The highest of the groups that stand one below the other, down to the deepest level. That one is
+/// the last, and all have three digits, as a membership line is longest.
+pub const LADDER: u64 = LAST_GROUP + 1 - DEEPEST as u64;
+
+/// Some that are in `tree`, one that is not live, and two above the last.
+const GROUPS: [u64; 11] = [0, 1, 2, 3, 4, 5, LADDER, LAST_GROUP, 100, LAST_GROUP + 1, u64::MAX];
+const PROCESSES: [u64; 6] = [0, 5, 6, 9, LAST_PROCESS, LAST_PROCESS + 1];
 const USERS: [u32; 3] = [0, 7, 8];
 const PAGES: [u64; 5] = [0, 1, 1_048_576, 1_048_577, u64::MAX];
 /// The settings that take figures, and a file that is none.
 const SETTINGS: [&str; 5] = ["memory.max", "pids.max", "cpu.weight", "cpu.max", "io.weight"];
-const NUMBERS: [&str; 7] = ["0", "5", "6", "9", "77", "257", "x"];
+const NUMBERS: [&str; 7] = ["0", "5", "6", "9", "1024", "1025", "x"];
 const FIGURES: [&str; 5] = ["0", "1000", "9999999999999999", "max", "x"];
 /// Words of io.max, where the first device is a fifth.
 const DEVICES: [&str; 6] = ["9:0", "256:0", "rbps=1", "wbps=0", "riops=max", "x"];
@@ -40,14 +44,15 @@ pub fn calls() -> Vec<Call> {
     calls.extend(sizes::calls(&model));
     calls.extend(names::calls());
     calls.extend(depths::calls(&model));
+    calls.extend(effects::calls());
     calls.extend(devices::calls());
     calls
 }
 
 /// Groups 1 to 4 are user 7's; 2 and 3, below it, have cpu in their sets, and neither io nor pids is
 /// on there. So has 5 beside them, user 0's. Group 1 holds four devices. Processes 5 and 6, user 7's
-/// and user 8's, stand in 4 and find no room above it; 9, user 7's, is in the root. Group 17 is at
-/// depth 8.
+/// and user 8's, stand in 4 and find no room above it; 9, user 7's, is in the root. The ladder goes
+/// down from the root.
 fn tree() -> Vec<Call> {
     let make = |user, parent, group| Call::Make { user, parent, group };
     let control =
@@ -81,10 +86,10 @@ fn tree() -> Vec<Call> {
         Call::Charge { process: 5, pages: 3 },
         limit("memory.max"),
         limit("pids.max"),
-        make(0, 0, 10),
+        make(0, 0, LADDER),
     ];
     calls.extend((1..=4).map(device));
-    calls.extend((10..17).map(|group| make(0, group, group + 1)));
+    calls.extend((LADDER..LAST_GROUP).map(|group| make(0, group, group + 1)));
     calls
 }
 
@@ -169,10 +174,10 @@ fn every(name: &str) -> Vec<Call> {
         }
         "read" => by_user(&|_, group| {
             let read = |file: &[u8], room| Call::Read { group, file: file.to_vec(), room };
-            FILES.iter().flat_map(|file| [read(file, 0), read(file, 1024)]).collect()
+            FILES.iter().flat_map(|file| [read(file, 0), read(file, ROOM)]).collect()
         }),
         "membership" => {
-            by_process(&|process| [0, 64].map(|room| Call::Membership { process, room }).to_vec())
+            by_process(&|process| [0, ROOM].map(|room| Call::Membership { process, room }).to_vec())
         }
         _ => unreachable!("no arguments for {name}"),
     }

@@ -171,7 +171,7 @@ const VALUES: [&str; 24] = [
 ];
 
 /// Lines that are wrong, or right, as a whole.
-const WHOLE: [&str; 38] = [
+const WHOLE: [&str; 39] = [
     "",
     " ",
     "\n",
@@ -206,6 +206,7 @@ const WHOLE: [&str; 38] = [
     "8:16 rbps=1\n8:17 rbps=1\n",
     "8:16 rbps=0 rbps=1",
     "8:16 rbps=1 rbps=1",
+    "8:16 rbps=77 wbps=0",
     "8:16 rbps=max rbps=max",
     "256:0 rbps=x",
     "256:0 rbps=1 rbps=2",

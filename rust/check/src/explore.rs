@@ -8,17 +8,22 @@ use crate::calls::Calls;
 use crate::compare::{Difference, Pair, first_difference};
 pub use crate::counts::Counts;
 use crate::crossed;
+use crate::full;
 use crate::generate::Generator;
 use crate::heap;
 use crate::model::Model;
 use crate::shrink::shrink;
 
-/// What no file shows is asked for after every so many calls, and at the end of a list; then the
-/// kinds of what files do show are counted too.
+/// All is read and what no file shows is asked for after every so many calls, and at the end of a
+/// list; then the kinds of what files do show are counted too. The second is for large trees.
 const PROBE_EVERY: usize = 16;
+const SELDOM: usize = 128;
 
 /// How many releases of own pages there are then, but for the end of a list.
 const RELEASES: u64 = 40;
+
+/// How many seeds come before the lists that have none.
+const FEW_SEEDS: u64 = 10;
 
 /// How long to look for a shorter list.
 const PATIENCE: Duration = Duration::from_secs(30);
@@ -32,18 +37,24 @@ pub struct Found {
     pub difference: Box<Difference>,
 }
 
-/// Compares the lists of all seeds, then those that have none, with a host that is made by `fresh`
-/// from the machine size. Answers the first list after which something differs.
+/// Compares the lists of all seeds and those that have none with a host that is made by `fresh` from
+/// the machine size. Answers the first list after which something differs. A few seeds come first, as
+/// their lists are short; then those without a seed, which come to what others seldom do.
 pub fn search<H: Calls>(
-    mut seeds: Range<u64>,
+    seeds: Range<u64>,
     length: usize,
     fresh: impl Fn(u64) -> H,
     counts: &mut Counts,
 ) -> Option<Found> {
-    seeds
-        .find_map(|seed| explore(seed, length, &fresh, counts))
+    let few = seeds.end.min(seeds.start.saturating_add(FEW_SEEDS));
+    let of_seeds = |mut seeds: Range<u64>, counts: &mut Counts| {
+        seeds.find_map(|seed| explore(seed, length, &fresh, counts))
+    };
+    of_seeds(seeds.start..few, counts)
         .or_else(|| given("crossed", crossed::MACHINE, crossed::calls(), &fresh, counts))
         .or_else(|| given("heap", heap::MACHINE, heap::calls(), &fresh, counts))
+        .or_else(|| given("full", full::MACHINE, full::calls(), &fresh, counts))
+        .or_else(|| of_seeds(few..seeds.end, counts))
 }
 
 fn given<H: Calls>(
@@ -66,7 +77,7 @@ pub fn explore<H: Calls>(
     counts: &mut Counts,
 ) -> Option<Found> {
     let mut generator = Generator::new(seed);
-    let machine = generator.machine();
+    let (machine, length) = (generator.machine(), generator.length(length));
     let (name, host) = (format!("seed_{seed}"), fresh(machine));
     follow(&name, machine, host, length, |model| generator.next(model), counts)
 }
@@ -89,18 +100,17 @@ fn follow<H: Calls>(
         if let Err(difference) = pair.step(&call) {
             return found(calls, difference);
         }
-        if place % PROBE_EVERY == 0 || place == length {
-            counts.values(pair.model());
-            let mut copy = pair.clone();
-            let before = calls.len();
-            let releases = if place == length { u64::MAX } else { RELEASES };
-            for probe in copy.probes(releases) {
-                calls.push(probe.clone());
-                if let Err(difference) = copy.answer(&probe) {
-                    return found(calls, difference);
-                }
+        let every = if pair.is_large() { SELDOM } else { PROBE_EVERY };
+        if place % every == 0 || place == length {
+            if let Err(difference) = pair.survey() {
+                return found(calls, difference);
             }
-            calls.truncate(before);
+            counts.values(pair.model());
+            let probes = pair.probes(if place == length { u64::MAX } else { RELEASES });
+            if let Err((last, difference)) = pair.clone().answer_all(&probes) {
+                calls.extend_from_slice(&probes[..=last]);
+                return found(calls, difference);
+            }
         }
     }
     None

@@ -15,6 +15,7 @@ mod devices;
 mod instead;
 mod outcomes;
 mod readers;
+mod sizes;
 mod table;
 
 /// What a wrong host does otherwise.

@@ -45,6 +45,12 @@ impl Generator {
         self.taste.machine
     }
 
+    /// The length of this seed's list, where others have so many calls: longer by a full house.
+    pub fn length(&self, calls: usize) -> usize {
+        let is_long = self.fresh.is_some_and(scenes::has_full_house);
+        if is_long { calls + scenes::FULL_HOUSE } else { calls }
+    }
+
     /// A kind of call, by its weight.
     fn kind(&mut self) -> Kind {
         let weights = &self.taste.weights;

@@ -1,9 +1,10 @@
 //! A list of calls that no seed comes to, for it takes more than four thousand: usage of 2^44 bytes
-//! and more at depth 8, limits about it on each group above, and the pages passed up to the root and
-//! released there. Before it, pages by the million where memory is on nowhere, which only releases
-//! show.
+//! and more at the deepest level, limits about it on each group above, and the pages passed up to the
+//! root and released there. Before it, pages by the million where memory is on nowhere, which only
+//! releases show.
 
 use crate::call::Call;
+use crate::model::DEEPEST;
 
 pub const MACHINE: u64 = 1 << 40;
 
@@ -12,7 +13,7 @@ const MOST: u64 = 1 << 20;
 const CHARGES: u64 = 1 << 12;
 
 /// The lowest group.
-const BOTTOM: u64 = 8;
+const BOTTOM: u64 = DEEPEST as u64;
 
 pub fn calls() -> Vec<Call> {
     let mut calls = unseen();
@@ -47,7 +48,8 @@ fn unseen() -> Vec<Call> {
     calls
 }
 
-/// Groups 1 to 8, each under the one before, memory on in all of them, and process 5 in 8.
+/// Groups from 1 to the lowest, each under the one before, memory on in all of them, and process 5 in
+/// the last.
 fn ladder() -> Vec<Call> {
     let control = |group| {
         let line = b"+memory".to_vec();

@@ -1,13 +1,20 @@
 //! The kinds of what is read and asked: values of each file, lengths of buffers and lines, names,
-//! lines of the question, pages released, limits above depth 8, devices.
+//! lines of the question, pages released, the last numbers in every place, limits and meetings above
+//! the deepest level, devices.
 
 use crate::call::Call;
 use crate::calls::Calls;
 use crate::checks::{Check, membership, read, write_procs, write_setting, write_subtree_control};
-use crate::compare::FILES;
-use crate::model::{MEMORY, Model, control_word, words};
+use crate::compare::{FILES, ROOM};
+use crate::model::{DEEPEST, LAST_PROCESS, MEMORY, Model, control_word, words};
 
 mod devices;
+mod numbers;
+
+/// The lengths of the longest texts, as the papers have them: 1 to 1024, each with a newline; and
+/// "0::", sixteen numbers of three digits, each after a "/", and a newline.
+const LONGEST_LISTING: usize = 4013;
+const LONGEST_LINE: usize = 68;
 
 /// What is read, and one kind of it.
 pub type Kind = (&'static str, &'static str);
@@ -60,7 +67,8 @@ pub const WRITTEN: &[&str] = &[
     "pids.max",
 ];
 
-const DEPTHS: [&str; 9] = [
+/// By depth, and then none: nothing stops it.
+const STOPPED: &[&str; DEEPEST + 2] = &[
     "stopped at depth 0",
     "stopped at depth 1",
     "stopped at depth 2",
@@ -70,6 +78,35 @@ const DEPTHS: [&str; 9] = [
     "stopped at depth 6",
     "stopped at depth 7",
     "stopped at depth 8",
+    "stopped at depth 9",
+    "stopped at depth 10",
+    "stopped at depth 11",
+    "stopped at depth 12",
+    "stopped at depth 13",
+    "stopped at depth 14",
+    "stopped at depth 15",
+    "stopped at depth 16",
+    "succeeded",
+];
+
+/// By the depth at which both chains meet.
+const MET: &[&str; DEEPEST] = &[
+    "met at depth 0",
+    "met at depth 1",
+    "met at depth 2",
+    "met at depth 3",
+    "met at depth 4",
+    "met at depth 5",
+    "met at depth 6",
+    "met at depth 7",
+    "met at depth 8",
+    "met at depth 9",
+    "met at depth 10",
+    "met at depth 11",
+    "met at depth 12",
+    "met at depth 13",
+    "met at depth 14",
+    "met at depth 15",
 ];
 
 /// Bits of a word that is too narrow.
@@ -78,13 +115,13 @@ const NARROW: [(u32, &str); 5] =
 
 /// Every kind there is.
 pub const KINDS: &[(&str, &[&str])] = &[
-    ("cgroup.procs", &["none", "one", "many", "256"]),
+    ("cgroup.procs", &["none", "one", "some", "more than 256", "1024"]),
     ("cgroup.controllers", SETS),
     ("cgroup.subtree_control", SETS),
     ("cgroup.events", &["populated 0", "populated 1"]),
     ("memory.current", &["0", "below 2^36", "2^36 or more", "2^44 or more"]),
     ("memory.max", &["max", "0", "a figure", "the largest"]),
-    ("pids.current", &["0", "some", "256"]),
+    ("pids.current", &["0", "some", "more than 256", "1024"]),
     ("pids.max", &["max", "0", "a figure", "the largest"]),
     ("cpu.weight", &["100", "1", "10000", "another"]),
     (
@@ -98,7 +135,10 @@ pub const KINDS: &[(&str, &[&str])] = &[
     ),
     ("io.max", devices::TEXTS),
     ("io.max written", devices::WRITTEN),
-    ("membership", &["the root", "depth 1", "deeper", "depth 8"]),
+    ("membership", &["the root", "depth 1", "deeper", "depth 16", "depth 16, the longest"]),
+    ("the longest text", &["cgroup.procs", "membership"]),
+    ("the longest text, buffer of exactly the length", &["cgroup.procs", "membership"]),
+    ("the longest text, buffer one byte short", &["cgroup.procs", "membership"]),
     ("buffer of exactly the length", TEXTS),
     ("buffer one byte short", TEXTS),
     ("buffer long enough, yet not modulo 2^8", TEXTS),
@@ -110,10 +150,10 @@ pub const KINDS: &[(&str, &[&str])] = &[
         &[
             "room to spare",
             "no bytes for an empty text",
-            "no bytes for a group above 63",
+            "no bytes for a group above the last",
             "no bytes for a group not live",
             "no bytes for an absent file",
-            "no bytes for a process outside 1 to 256",
+            "no bytes for a process out of range",
             "no bytes for a process not live",
         ],
     ),
@@ -154,35 +194,14 @@ pub const KINDS: &[(&str, &[&str])] = &[
     ("release of more than own pages modulo", &["2^16", "2^20", "2^22", "2^24", "2^32"]),
     ("the same from the root", &["2^16", "2^20", "2^22", "2^24", "2^32"]),
     ("the same with memory on nowhere", &["2^16", "2^20", "2^22", "2^24"]),
-    (
-        "charge at depth 8",
-        &[
-            "succeeded",
-            DEPTHS[0],
-            DEPTHS[1],
-            DEPTHS[2],
-            DEPTHS[3],
-            DEPTHS[4],
-            DEPTHS[5],
-            DEPTHS[6],
-            DEPTHS[7],
-            DEPTHS[8],
-        ],
-    ),
-    (
-        "fork at depth 8",
-        &[
-            "succeeded",
-            DEPTHS[1],
-            DEPTHS[2],
-            DEPTHS[3],
-            DEPTHS[4],
-            DEPTHS[5],
-            DEPTHS[6],
-            DEPTHS[7],
-            DEPTHS[8],
-        ],
-    ),
+    ("charge at depth 16", STOPPED),
+    ("fork at depth 16", STOPPED.split_at(1).1),
+    ("move from depth 16, granted to the owner", MET.split_at(1).1),
+    ("move from depth 16, refused to others", MET),
+    ("group 255", numbers::GROUPS),
+    ("group 256", numbers::GROUPS),
+    ("process 1024", numbers::PROCESSES),
+    ("process 1025", numbers::PROCESSES),
 ];
 
 fn kind(what: &str, name: &str) -> Kind {
@@ -203,8 +222,7 @@ fn value_kind(file: &str, text: &str) -> Kind {
         "cgroup.procs" => match text.lines().count() {
             0 => "none".to_string(),
             1 => "one".to_string(),
-            256 => "256".to_string(),
-            _ => "many".to_string(),
+            count => many(count as u64),
         },
         "cgroup.controllers" | "cgroup.subtree_control" if value.is_empty() => "none".to_string(),
         "memory.current" => match value.parse::<u64>().expect("a number") {
@@ -216,7 +234,7 @@ fn value_kind(file: &str, text: &str) -> Kind {
         .to_string(),
         "memory.max" => of_limit("4503599627370496"),
         "pids.max" => of_limit("4194304"),
-        "pids.current" if !matches!(value, "0" | "256") => "some".to_string(),
+        "pids.current" if value != "0" => many(value.parse().expect("a number")),
         "cpu.weight" if !matches!(value, "1" | "100" | "10000") => "another".to_string(),
         "cpu.max" => {
             let limit = if value.starts_with("max") { "max" } else { "a figure" };
@@ -229,9 +247,19 @@ fn value_kind(file: &str, text: &str) -> Kind {
     kind(file, &name)
 }
 
+/// How many processes there are, where there are any.
+fn many(processes: u64) -> String {
+    match processes {
+        LAST_PROCESS => "1024",
+        257.. => "more than 256",
+        _ => "some",
+    }
+    .to_string()
+}
+
 /// The kinds of all that can be read: every file of every live group, every membership line.
 pub fn values(model: &Model) -> Vec<Kind> {
-    let (mut reply, mut told) = ([0; 1024], [0]);
+    let (mut reply, mut told) = ([0; ROOM], [0]);
     let mut kinds = vec![];
     for group in model.live_groups() {
         for file in FILES {
@@ -241,18 +269,30 @@ pub fn values(model: &Model) -> Vec<Kind> {
             }
         }
     }
-    let groups = model.live_processes().filter_map(|process| model.process(process));
-    kinds.extend(groups.map(|process| match model.depth(process.group) {
-        0 => kind("membership", "the root"),
-        1 => kind("membership", "depth 1"),
-        8 => kind("membership", "depth 8"),
-        _ => kind("membership", "deeper"),
+    let processes = model.live_processes().filter_map(|process| model.process(process));
+    kinds.extend(processes.map(|process| {
+        let chain = model.chain(process.group);
+        match chain.len() - 1 {
+            0 => kind("membership", "the root"),
+            1 => kind("membership", "depth 1"),
+            DEEPEST if chain[..DEEPEST].iter().all(|&group| group > 99) => {
+                kind("membership", "depth 16, the longest")
+            }
+            DEEPEST => kind("membership", "depth 16"),
+            _ => kind("membership", "deeper"),
+        }
     }));
     kinds
 }
 
 /// The kinds of a call, by the checks that hold.
 pub fn of_call(model: &Model, call: &Call, held: &[&'static Check]) -> Vec<Kind> {
+    let mut kinds = numbers::of_call(call, held);
+    kinds.extend(of_arguments(model, call, held));
+    kinds
+}
+
+fn of_arguments(model: &Model, call: &Call, held: &[&'static Check]) -> Vec<Kind> {
     match call {
         Call::Read { file, room, .. } => {
             let file = String::from_utf8_lossy(file);
@@ -266,6 +306,7 @@ pub fn of_call(model: &Model, call: &Call, held: &[&'static Check]) -> Vec<Kind>
         Call::WriteProcs { line, .. } if held == [write_procs::LONG_LINE] => {
             long_line("cgroup.procs", line.len())
         }
+        Call::WriteProcs { user, group, .. } if *user != 0 => met(model, call, *group, held),
         Call::WriteSubtreeControl { line, .. } if held == [write_subtree_control::LONG_LINE] => {
             long_line("cgroup.subtree_control", line.len())
         }
@@ -283,20 +324,20 @@ pub fn of_call(model: &Model, call: &Call, held: &[&'static Check]) -> Vec<Kind>
             asked(line).into_iter().map(|name| kind("question", name)).collect()
         }
         Call::Release { group, pages } if held.is_empty() => released(model, *group, *pages),
-        Call::Charge { process, .. } => at_depth_8(model, call, *process, "charge at depth 8"),
-        Call::Fork { parent, .. } => at_depth_8(model, call, *parent, "fork at depth 8"),
+        Call::Charge { process, .. } => stopped(model, call, *process, "charge at depth 16"),
+        Call::Fork { parent, .. } => stopped(model, call, *parent, "fork at depth 16"),
         _ => vec![],
     }
 }
 
 /// The checks before a buffer is asked for, and what it is to have no bytes there.
 const NO_BYTES: [(&Check, &str); 7] = [
-    (read::ABOVE_63, "no bytes for a group above 63"),
+    (read::ABOVE_LAST, "no bytes for a group above the last"),
     (read::NOT_LIVE, "no bytes for a group not live"),
     (read::NO_SUCH_FILE, "no bytes for an absent file"),
     (read::EVENTS_ON_ROOT, "no bytes for an absent file"),
     (read::NOT_ON, "no bytes for an absent file"),
-    (membership::OUTSIDE, "no bytes for a process outside 1 to 256"),
+    (membership::OUTSIDE, "no bytes for a process out of range"),
     (membership::NOT_LIVE, "no bytes for a process not live"),
 ];
 
@@ -314,7 +355,7 @@ fn buffer(
     }
     let mut roomy = call.clone();
     if let Call::Read { room, .. } | Call::Membership { room, .. } = &mut roomy {
-        *room = 1024;
+        *room = ROOM;
     }
     let length = roomy.on(&mut model.clone(), 0).told[0] as usize;
     if length == 0 {
@@ -332,6 +373,11 @@ fn buffer(
     };
     note(given == length, "buffer of exactly the length");
     note(given + 1 == length, "buffer one byte short");
+    if [("cgroup.procs", LONGEST_LISTING), ("membership", LONGEST_LINE)].contains(&(text, length)) {
+        note(given > length, "the longest text");
+        note(given == length, "the longest text, buffer of exactly the length");
+        note(given + 1 == length, "the longest text, buffer one byte short");
+    }
     for (bits, what) in [
         (8, "buffer long enough, yet not modulo 2^8"),
         (12, "buffer long enough, yet not modulo 2^12"),
@@ -416,18 +462,40 @@ fn released(model: &Model, group: u64, pages: u64) -> Vec<Kind> {
     kinds
 }
 
-/// A charge or a fork by a process at depth 8: at which depth it is stopped, if it is.
-fn at_depth_8(model: &Model, call: &Call, process: u64, what: &str) -> Vec<Kind> {
-    let depth = model.process(process).map(|kept| model.depth(kept.group));
-    if depth != Some(8) {
+/// Whether the process is at the deepest level.
+fn is_deepest(model: &Model, process: u64) -> bool {
+    model.process(process).is_some_and(|kept| model.depth(kept.group) == DEEPEST)
+}
+
+/// A charge or a fork by a process at the deepest level: at which depth it is stopped, if it is.
+fn stopped(model: &Model, call: &Call, process: u64, what: &str) -> Vec<Kind> {
+    if !is_deepest(model, process) {
         return vec![];
     }
     let answer = call.on(&mut model.clone(), 0);
     match answer.number {
-        0 => vec![kind(what, "succeeded")],
-        11 | 12 => vec![kind(what, DEPTHS[model.depth(answer.told[0])])],
+        0 => vec![kind(what, STOPPED[DEEPEST + 1])],
+        11 | 12 => vec![kind(what, STOPPED[model.depth(answer.told[0])])],
         _ => vec![],
     }
+}
+
+/// A move from the deepest level by another than user 0, for which the group decides where both
+/// chains meet: at which depth that is.
+fn met(model: &Model, call: &Call, target: u64, held: &[&Check]) -> Vec<Kind> {
+    let what = match held {
+        [] => "move from depth 16, granted to the owner",
+        [check] if *check == write_procs::MAY_NOT_WRITE_LOWEST => {
+            "move from depth 16, refused to others"
+        }
+        _ => return vec![],
+    };
+    let Some(process) = call.processes().into_iter().find(|&n| is_deepest(model, n)) else {
+        return vec![];
+    };
+    let source = model.process(process).map_or(0, |kept| kept.group);
+    let met = model.lowest_on_both(source, target).map_or(0, |group| model.depth(group));
+    MET.get(met).map(|name| kind(what, name)).into_iter().collect()
 }
 
 fn asked(line: &[u8]) -> Vec<&'static str> {

@@ -6,9 +6,10 @@
 //! - [`linked`]: the proved host, behind the C interface
 //! - [`calls`], [`call`]: what both answer, as a trait and as a value
 //! - [`generate`]: lists of calls from a seed
-//! - [`crossed`], [`heap`]: two lists more, for pairs of checks and for many pages
-//! - [`sizes`], [`names`], [`depths`], [`devices`]: parts of the first: long lines and large buffers,
-//!   near names, limits above depth 8, lines of io.max
+//! - [`crossed`], [`heap`], [`full`]: three lists more, for pairs of checks, for many pages, and for
+//!   every group and every process
+//! - [`sizes`], [`names`], [`depths`], [`effects`], [`devices`]: parts of the first: long lines and
+//!   large buffers, near names, limits above the deepest level, what a line leaves, lines of io.max
 //! - [`compare`], [`explore`]: one list, and many
 //! - [`counts`], [`kinds`]: what the lists came to, and what they never did
 //! - [`shrink`]: a short list from a long one
@@ -25,8 +26,10 @@ pub mod counts;
 pub mod crossed;
 pub mod depths;
 pub mod devices;
+pub mod effects;
 pub mod explore;
 pub mod fault;
+pub mod full;
 pub mod generate;
 pub mod heap;
 pub mod kinds;

@@ -21,7 +21,7 @@ shootspiral-check [SEEDS [CALLS [FIRST]]] [OPTION...]
 shootspiral-check replay FILE...
 
   SEEDS   how many lists of calls to compare (100)
-  CALLS   how many calls each has (300)
+  CALLS   how many calls each has (300); those that begin with every process live have more
   FIRST   the seed of the first (1)
 
   --long      5000 seeds of 400 calls: two million calls
@@ -118,7 +118,10 @@ fn compare(task: &Task) -> bool {
     }
     let (calls, refused) = (counts.all(), counts.refused());
     let seconds = start.elapsed().as_secs_f64();
-    println!("{} seeds from {}, the crossed list and the heap", task.seeds, task.first);
+    println!(
+        "{} seeds from {}, the crossed list, the heap and the full tree",
+        task.seeds, task.first
+    );
     println!("{calls} calls, {refused} refused");
     println!("all alike, {seconds:.1} s, {:.2} s for 100,000 calls", seconds * 1e5 / calls as f64);
     if !task.reached {

@@ -1,13 +1,15 @@
 //! Document 01 as a plain program, with the orders of document 02 that have landed. Written from the
 //! papers alone, to be read beside them: nothing is kept that can be worked out, so depths, usages and
-//! counts are found anew each time, over all groups and all processes. The words are the papers'. It
-//! is slow and knows no C.
+//! counts are found anew each time, over all live groups and all live processes. The words are the
+//! papers'. It is slow and knows no C.
 //!
 //! Each call has its checks as a list, in the paper's order, and what it does when none of them
 //! holds. A check can be asked even where an earlier one holds: of a group or a process that is not
 //! live nothing is true, and only user 0 may write the one and move the other. Where the paper joins
 //! two causes under one number, the second is asked of what the first lets pass: "not live" of
 //! processes in range, "not on" of groups that are live.
+
+use std::collections::BTreeMap;
 
 use crate::checks::Check;
 
@@ -25,9 +27,10 @@ pub(crate) use devices::{DeviceLine, NO_LIMITS, listed_devices};
 pub(crate) use lines::{control_word, number, words};
 
 const ROOT: u64 = 0;
-const LAST_GROUP: u64 = 63;
-const LAST_PROCESS: u64 = 256;
-const DEEPEST: usize = 8;
+/// Groups are 0 to 255, processes 1 to 1024, and depth goes to 16: order 4.
+pub const LAST_GROUP: u64 = 255;
+pub const LAST_PROCESS: u64 = 1024;
+pub const DEEPEST: usize = 16;
 const PAGE: u64 = 4096;
 const LARGEST_MACHINE: u64 = 1 << 40;
 const MOST_PAGES: u64 = 1_048_576;
@@ -83,11 +86,13 @@ pub struct Process {
     pub group: u64,
 }
 
+/// The machine size, the live groups at the places of their numbers, and the live processes by their
+/// numbers.
 #[derive(Clone)]
 pub struct Model {
     machine: u64,
-    groups: [Option<Group>; LAST_GROUP as usize + 1],
-    processes: [Option<Process>; LAST_PROCESS as usize + 1],
+    groups: Vec<Option<Box<Group>>>,
+    processes: BTreeMap<u64, Process>,
 }
 
 fn is_outside(process: u64) -> bool {

@@ -1,9 +1,11 @@
 //! From a list of calls after which something differs to a short one: calls are left out, then
 //! what is left is made plainer, for as long as a difference stays.
 
+use std::collections::BTreeSet;
 use std::time::{Duration, Instant};
 
 use crate::call::Call;
+use crate::model::{LAST_GROUP, LAST_PROCESS};
 
 /// The shortest list found before patience ends. `fails` says whether a list still shows a
 /// difference, and after how many calls.
@@ -12,132 +14,167 @@ pub fn shrink(
     patience: Duration,
     fails: impl Fn(&[Call]) -> Option<usize>,
 ) -> Vec<Call> {
-    let start = Instant::now();
-    let mut attempt = |best: &mut Vec<Call>, candidate: Vec<Call>| {
-        if start.elapsed() > patience {
-            return false;
-        }
-        let Some(length) = fails(&candidate) else { return false };
-        *best = candidate;
-        best.truncate(length);
-        true
-    };
+    let search = Search { start: Instant::now(), patience, fails };
     loop {
-        let left_out = leave_out(&mut calls, &mut attempt);
-        let merged = merge(&mut calls, &mut attempt);
-        let plainer = make_plainer(&mut calls, &mut attempt);
-        let renumbered = renumber(&mut calls, &mut attempt);
+        let left_out = search.leave_out(&mut calls);
+        let merged = search.merge(&mut calls);
+        let plainer = search.make_plainer(&mut calls);
+        let renumbered = search.renumber(&mut calls);
         if !(left_out || merged || plainer || renumbered) {
             return calls;
         }
     }
 }
 
-/// Leaves out runs of calls, half of the list at a time, then a quarter, down to single calls.
-fn leave_out(
-    calls: &mut Vec<Call>,
-    attempt: &mut impl FnMut(&mut Vec<Call>, Vec<Call>) -> bool,
-) -> bool {
-    let mut any = false;
-    let mut run = calls.len().div_ceil(2);
-    while run > 0 {
-        let mut end = calls.len();
-        while end > 0 {
-            let first = end.saturating_sub(run);
-            let candidate = [&calls[..first], &calls[end..]].concat();
-            if !candidate.is_empty() && attempt(calls, candidate) {
+struct Search<F> {
+    start: Instant,
+    patience: Duration,
+    fails: F,
+}
+
+impl<F: Fn(&[Call]) -> Option<usize>> Search<F> {
+    fn is_over(&self) -> bool {
+        self.start.elapsed() > self.patience
+    }
+
+    /// Takes another list for the best one, if it still shows a difference. Where patience has ended
+    /// it is not even made.
+    fn attempt(&self, best: &mut Vec<Call>, other: impl FnOnce(&[Call]) -> Vec<Call>) -> bool {
+        if self.is_over() {
+            return false;
+        }
+        let mut candidate = other(best);
+        let Some(length) = (self.fails)(&candidate) else { return false };
+        candidate.truncate(length);
+        *best = candidate;
+        true
+    }
+
+    /// Leaves out runs of calls, half of the list at a time, then a quarter, down to single calls.
+    fn leave_out(&self, calls: &mut Vec<Call>) -> bool {
+        let mut any = false;
+        let mut run = calls.len().div_ceil(2);
+        while run > 0 {
+            let mut end = calls.len();
+            while end > 0 {
+                let first = end.saturating_sub(run);
+                if first > 0 || end < calls.len() {
+                    any |= self.attempt(calls, |best| [&best[..first], &best[end..]].concat());
+                }
+                end = first.min(calls.len());
+            }
+            run /= 2;
+        }
+        any
+    }
+
+    /// Takes one group for another, and one process for another, each made once only.
+    fn merge(&self, calls: &mut Vec<Call>) -> bool {
+        let mut any = false;
+        for (old, new) in pairs(&groups(calls)) {
+            let makes = |call: &Call| matches!(call, Call::Make { group, .. } if *group == old);
+            any |= self.merged(calls, makes, |call| with_group(call, old, new));
+        }
+        for (old, new) in pairs(&processes(calls)) {
+            let makes = |call: &Call| match call {
+                Call::Admit { process, .. } | Call::Fork { process, .. } => *process == old,
+                _ => false,
+            };
+            any |= self.merged(calls, makes, |call| with_process(call, old, new));
+        }
+        any
+    }
+
+    /// Leaves out the calls that make the one, and changes all others.
+    fn merged(
+        &self,
+        calls: &mut Vec<Call>,
+        makes: impl Fn(&Call) -> bool,
+        change: impl Fn(&Call) -> Call,
+    ) -> bool {
+        let made = |calls: &[Call]| calls.iter().filter(|call| makes(call)).count();
+        if self.is_over() || !(1..calls.len()).contains(&made(calls)) {
+            return false;
+        }
+        self.attempt(calls, |best| best.iter().filter(|call| !makes(call)).map(change).collect())
+    }
+
+    /// Takes each call's arguments to smaller ones.
+    fn make_plainer(&self, calls: &mut Vec<Call>) -> bool {
+        let mut any = false;
+        let mut place = 0;
+        while place < calls.len() {
+            for plainer in plainer(&calls[place]) {
+                let with_plainer = |best: &[Call]| {
+                    let mut candidate = best.to_vec();
+                    candidate[place] = plainer;
+                    candidate
+                };
+                if self.attempt(calls, with_plainer) {
+                    any = true;
+                    break;
+                }
+            }
+            place += 1;
+        }
+        any
+    }
+
+    /// Gives groups and processes the lowest numbers that are free in the list.
+    fn renumber(&self, calls: &mut Vec<Call>) -> bool {
+        let (groups, processes) = (groups(calls), processes(calls));
+        let groups = self.renumber_each(calls, groups, with_group);
+        let processes = self.renumber_each(calls, processes, with_process);
+        groups || processes
+    }
+
+    fn renumber_each(
+        &self,
+        calls: &mut Vec<Call>,
+        mut named: BTreeSet<u64>,
+        change: fn(&Call, u64, u64) -> Call,
+    ) -> bool {
+        let mut any = false;
+        for old in named.clone().into_iter().rev() {
+            let free = (1..old).find(|lower| !named.contains(lower));
+            let changed =
+                |new| move |best: &[Call]| best.iter().map(|c| change(c, old, new)).collect();
+            if let Some(new) = free
+                && self.attempt(calls, changed(new))
+            {
+                named.remove(&old);
+                named.insert(new);
                 any = true;
             }
-            end = first.min(calls.len());
         }
-        run /= 2;
+        any
     }
-    any
 }
 
-/// Takes one group for another, and one process for another, each made once only.
-fn merge(
-    calls: &mut Vec<Call>,
-    attempt: &mut impl FnMut(&mut Vec<Call>, Vec<Call>) -> bool,
-) -> bool {
-    let mut any = false;
-    let groups: Vec<u64> =
-        (0..=63).filter(|&group| calls.iter().any(|call| names_group(call, group))).collect();
-    for (old, new) in pairs(&groups) {
-        let kept =
-            calls.iter().filter(|call| !matches!(call, Call::Make { group, .. } if *group == old));
-        let candidate: Vec<Call> = kept.map(|call| with_group(call, old, new)).collect();
-        if !candidate.is_empty() && candidate.len() < calls.len() {
-            any |= attempt(calls, candidate);
-        }
+/// The groups in range that calls name.
+fn groups(calls: &[Call]) -> BTreeSet<u64> {
+    let mut named = BTreeSet::new();
+    for mut call in calls.iter().cloned() {
+        each_group(&mut call, |group| named.extend((*group <= LAST_GROUP).then_some(*group)));
     }
-    let processes: Vec<u64> = (1..=256)
-        .filter(|&process| calls.iter().any(|call| names_process(call, process)))
-        .collect();
-    for (old, new) in pairs(&processes) {
-        let kept = calls.iter().filter(|call| match call {
-            Call::Admit { process, .. } | Call::Fork { process, .. } => *process != old,
-            _ => true,
-        });
-        let candidate: Vec<Call> = kept.map(|call| with_process(call, old, new)).collect();
-        if !candidate.is_empty() && candidate.len() < calls.len() {
-            any |= attempt(calls, candidate);
-        }
-    }
-    any
+    named
 }
 
-fn pairs(numbers: &[u64]) -> impl Iterator<Item = (u64, u64)> {
+/// The processes in range that calls name.
+fn processes(calls: &[Call]) -> BTreeSet<u64> {
+    let mut named = BTreeSet::new();
+    for mut call in calls.iter().cloned() {
+        let is_in_range = |process: u64| (1..=LAST_PROCESS).contains(&process);
+        each_process(&mut call, |process| named.extend(is_in_range(*process).then_some(*process)));
+    }
+    named
+}
+
+fn pairs(numbers: &BTreeSet<u64>) -> impl Iterator<Item = (u64, u64)> {
     let each = |&one: &u64| {
         numbers.iter().filter(move |&&other| other != one).map(move |&other| (one, other))
     };
     numbers.iter().flat_map(each)
-}
-
-/// Takes each call's arguments to smaller ones.
-fn make_plainer(
-    calls: &mut Vec<Call>,
-    attempt: &mut impl FnMut(&mut Vec<Call>, Vec<Call>) -> bool,
-) -> bool {
-    let mut any = false;
-    let mut place = 0;
-    while place < calls.len() {
-        for plainer in plainer(&calls[place]) {
-            let mut candidate = calls.clone();
-            candidate[place] = plainer;
-            if attempt(calls, candidate) {
-                any = true;
-                break;
-            }
-        }
-        place += 1;
-    }
-    any
-}
-
-/// Gives groups and processes the lowest numbers that are free in the list.
-fn renumber(
-    calls: &mut Vec<Call>,
-    attempt: &mut impl FnMut(&mut Vec<Call>, Vec<Call>) -> bool,
-) -> bool {
-    let mut any = false;
-    for old in (2..=63).rev() {
-        if let Some(new) = (1..old).find(|&new| !calls.iter().any(|call| names_group(call, new)))
-            && calls.iter().any(|call| names_group(call, old))
-        {
-            let candidate = calls.iter().map(|call| with_group(call, old, new)).collect();
-            any |= attempt(calls, candidate);
-        }
-    }
-    for old in (2..=256).rev() {
-        if let Some(new) = (1..old).find(|&new| !calls.iter().any(|call| names_process(call, new)))
-            && calls.iter().any(|call| names_process(call, old))
-        {
-            let candidate = calls.iter().map(|call| with_process(call, old, new)).collect();
-            any |= attempt(calls, candidate);
-        }
-    }
-    any
 }
 
 /// Calls that are one step plainer: a smaller number, fewer bytes.
@@ -305,18 +342,6 @@ fn each_process(call: &mut Call, mut visit: impl FnMut(&mut u64)) {
         }
         _ => {}
     }
-}
-
-fn names_group(call: &Call, group: u64) -> bool {
-    let mut named = false;
-    each_group(&mut call.clone(), |number| named |= *number == group);
-    named
-}
-
-fn names_process(call: &Call, process: u64) -> bool {
-    let mut named = false;
-    each_process(&mut call.clone(), |number| named |= *number == process);
-    named
 }
 
 fn with_group(call: &Call, old: u64, new: u64) -> Call {

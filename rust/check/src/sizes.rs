@@ -3,6 +3,7 @@
 //! length with a power of two added.
 
 use crate::call::Call;
+use crate::compare::ROOM;
 use crate::kinds::{TEXTS, WRITTEN};
 use crate::model::Model;
 
@@ -96,7 +97,7 @@ fn rooms(model: &Model, text: &str) -> Vec<Call> {
         "cgroup.procs" => Call::Read { group: 4, file: text.into(), room },
         _ => Call::Read { group: 1, file: text.into(), room },
     };
-    let length = ask(1024).on(&mut model.clone(), 0).told[0] as usize;
+    let length = ask(ROOM).on(&mut model.clone(), 0).told[0] as usize;
     let mut rooms = vec![length - 1, length, length + 1, 1 << 12, (1 << 12) + 1, 1 << 16];
     rooms.extend([8, 9, 10, 12, 16].map(|bits| (1 << bits) + length - 1));
     rooms.into_iter().map(ask).collect()

@@ -97,7 +97,7 @@ fn where_it_is<H: Calls>() {
     evening.absent(0, ["io.max"]);
     evening.absent(2, ["io.max"]);
     evening.reads(1, "io.max", "");
-    evening.unread_into(400, 64, "io.max", 22);
+    evening.unread_into(400, 256, "io.max", 22);
     evening.unread_into(400, 9, "io.max", 2);
     evening.succeed([setting(0, 1, "io.max", "8:16 rbps=2097152 wiops=120")]);
     evening.reads(1, "io.max", "8:16 rbps=2097152 wbps=max riops=max wiops=120\n");
@@ -241,7 +241,7 @@ fn refusals_before_the_line<H: Calls>() {
     evening.succeed([control(0, 0, "+cpu +io"), control(7, 1, "+cpu")]);
     evening.succeed([1, 2, 3, 4].map(|major| setting(0, 1, "io.max", format!("{major}:0 rbps=1"))));
     for line in ["x", "256:0", "8:16 rbps=0", "9:0 rbps=1", &padded(129, "8:16")] {
-        evening.get(22, [setting(8, 64, "io.max", line)]);
+        evening.get(22, [setting(8, 256, "io.max", line)]);
         evening.get(2, [setting(8, 9, "io.max", line), setting(0, 0, "io.max", line)]);
         evening.get(2, [setting(8, 2, "io.max", line), setting(8, 1, "io.maxx", line)]);
         evening.get(13, [setting(7, 1, "io.max", line), setting(8, 1, "io.max", line)]);

@@ -1,6 +1,6 @@
 //! The evenings worked through in document 01, one test each, asked of the model and of the proved
 //! host. The answers are the paper's, written out: they hold the model itself to the paper. P6 is as
-//! order 2 of document 02 has it.
+//! order 2 of document 02 has it, and the depths are those of order 4.
 
 #[macro_use]
 mod common;
@@ -156,10 +156,11 @@ fn whole_replies<H: Calls>() {
 
 fn depths<H: Calls>() {
     let mut host = H::fresh(1024);
-    for depth in 0..8 {
+    for depth in 0..16 {
         assert_eq!(host.make(0, depth, depth + 1), 0, "under depth {depth}");
     }
-    assert_eq!(host.make(0, 8, 9), 11);
+    assert_eq!(host.make(0, 16, 17), 11);
+    assert_eq!(host.make(0, 15, 17), 0);
 }
 
 ///     0 (9 pages)
@@ -178,8 +179,8 @@ fn consulted_counts<H: Calls>() {
     assert_eq!(host.write_procs(0, 3, b"5"), 0);
     assert_eq!(fork(&mut host, 5, 6), (0, NO_GROUP, 4));
     assert_eq!(fork(&mut host, 5, 7), (11, 1, 3));
-    assert_eq!(fork(&mut host, 9, 257), (3, NO_GROUP, 0));
-    assert_eq!(fork(&mut host, 5, 257), (22, NO_GROUP, 0));
+    assert_eq!(fork(&mut host, 9, 1025), (3, NO_GROUP, 0));
+    assert_eq!(fork(&mut host, 5, 1025), (22, NO_GROUP, 0));
     assert_eq!(fork(&mut host, 5, 6), (17, NO_GROUP, 0));
     assert_eq!(charge(&mut host, 5, 9), (0, NO_GROUP, 4));
     assert_eq!(charge(&mut host, 5, 1), (12, 0, 4));

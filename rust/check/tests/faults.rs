@@ -21,10 +21,10 @@ fn without_a_fault_nothing_is_found() {
 
 /// Of each kind of fault one that a handful of calls shows.
 const SHORTLY_SHOWN: [(&str, usize); 8] = [
-    ("a number with leading zeros is malformed", 2),
+    ("a number with leading zeros is malformed", 3),
     ("a charge refused further up leaves pages behind", 8),
     ("a move asks source and target, not their common ancestor", 8),
-    ("a buffer that is too short is filled all the same", 3),
+    ("a buffer that is too short is filled all the same", 4),
     ("a setting asks for the user before its controller", 2),
     ("fork in the root makes the child user 0's", 7),
     ("a key of io.max that is not given goes back to \"max\"", 4),

@@ -17,14 +17,14 @@ both! {
     brim
 }
 
-/// Groups 1 to 8, each under the one before, memory on in all of them, and process 5 in 8.
+/// Groups 1 to 16, each under the one before, memory on in all of them, and process 5 in 16.
 fn ladder() -> Vec<Call> {
     let mut calls = vec![];
-    for group in 1..=8 {
+    for group in 1..=16 {
         calls.push(control(0, group - 1, "+memory"));
         calls.push(make(0, group - 1, group));
     }
-    calls.extend([admit(5, 7), procs(0, 8, "5")]);
+    calls.extend([admit(5, 7), procs(0, 16, "5")]);
     calls
 }
 
@@ -48,39 +48,39 @@ fn uses<H: Calls>(host: &H, groups: impl IntoIterator<Item = u64>, pages: u64) {
 }
 
 /// 1,048,576 charges of 1,048,576 pages, and as many releases; between them limits at the whole
-/// machine and a page below, and the pages passed up from group 8 to the root.
+/// machine and a page below, and the pages passed up from group 16 to the root.
 #[test]
 fn every_page() {
     let mut host = Linked::fresh(MACHINE);
     succeed(&mut host, ladder());
     for charges in 1..=MACHINE / MOST {
-        assert_eq!(charged(&mut host, MOST), (0, NO_GROUP, 9), "{charges}");
+        assert_eq!(charged(&mut host, MOST), (0, NO_GROUP, 17), "{charges}");
         if charges.is_power_of_two() || charges % 99_991 == 0 {
-            uses(&host, 1..=8, charges * MOST);
+            uses(&host, 1..=16, charges * MOST);
         }
     }
-    assert_eq!(shown(&host, 8, "memory.current"), "4503599627370496\n");
+    assert_eq!(shown(&host, 16, "memory.current"), "4503599627370496\n");
     for pages in [1, MOST] {
-        assert_eq!(charged(&mut host, pages), (12, 0, 9));
+        assert_eq!(charged(&mut host, pages), (12, 0, 17));
     }
 
     assert_eq!(setting(0, 4, "memory.max", "4503599627370496").on(&mut host, 0).number, 0);
-    assert_eq!(charged(&mut host, 1), (12, 4, 5));
-    succeed(&mut host, [setting(0, 8, "memory.max", "4503599627366400")]);
-    assert_eq!(charged(&mut host, 1), (12, 8, 1));
-    succeed(&mut host, [release(8, 1)]);
-    assert_eq!(charged(&mut host, 1), (12, 8, 1));
-    succeed(&mut host, [release(8, MOST - 1)]);
-    uses(&host, 1..=8, MACHINE - MOST);
-    assert_eq!(charged(&mut host, MOST), (12, 8, 1));
-    assert_eq!(charged(&mut host, MOST - 1), (0, NO_GROUP, 9));
-    succeed(&mut host, [setting(0, 8, "memory.max", "max")]);
-    assert_eq!(charged(&mut host, 2), (12, 4, 5));
-    assert_eq!(charged(&mut host, 1), (0, NO_GROUP, 9));
-    uses(&host, 1..=8, MACHINE);
+    assert_eq!(charged(&mut host, 1), (12, 4, 13));
+    succeed(&mut host, [setting(0, 16, "memory.max", "4503599627366400")]);
+    assert_eq!(charged(&mut host, 1), (12, 16, 1));
+    succeed(&mut host, [release(16, 1)]);
+    assert_eq!(charged(&mut host, 1), (12, 16, 1));
+    succeed(&mut host, [release(16, MOST - 1)]);
+    uses(&host, 1..=16, MACHINE - MOST);
+    assert_eq!(charged(&mut host, MOST), (12, 16, 1));
+    assert_eq!(charged(&mut host, MOST - 1), (0, NO_GROUP, 17));
+    succeed(&mut host, [setting(0, 16, "memory.max", "max")]);
+    assert_eq!(charged(&mut host, 2), (12, 4, 13));
+    assert_eq!(charged(&mut host, 1), (0, NO_GROUP, 17));
+    uses(&host, 1..=16, MACHINE);
 
     succeed(&mut host, [exit(5)]);
-    for group in (1..=8).rev() {
+    for group in (1..=16).rev() {
         succeed(&mut host, [remove(0, group)]);
         uses(&host, 1..group, MACHINE);
     }
@@ -99,12 +99,12 @@ fn brim<H: Calls>() {
     let mut host = H::fresh(machine);
     succeed(&mut host, ladder());
     for charges in 1..=16 {
-        assert_eq!(charged(&mut host, MOST), (0, NO_GROUP, 9));
-        uses(&host, 1..=8, charges * MOST);
+        assert_eq!(charged(&mut host, MOST), (0, NO_GROUP, 17));
+        uses(&host, 1..=16, charges * MOST);
     }
-    assert_eq!(charged(&mut host, 78), (12, 0, 9));
-    assert_eq!(charged(&mut host, 77), (0, NO_GROUP, 9));
-    assert_eq!(charged(&mut host, 1), (12, 0, 9));
-    uses(&host, 1..=8, machine);
+    assert_eq!(charged(&mut host, 78), (12, 0, 17));
+    assert_eq!(charged(&mut host, 77), (0, NO_GROUP, 17));
+    assert_eq!(charged(&mut host, 1), (12, 0, 17));
+    uses(&host, 1..=16, machine);
     assert_eq!(read(&host, 0, "memory.current"), Err(2));
 }

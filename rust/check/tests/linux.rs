@@ -210,7 +210,7 @@ fn wrong_hosts_are_found() {
         let fault = Fault::named(text).unwrap_or_else(|| panic!("no fault: {text}"));
         assert!(is_found(&fault), "{text}");
     }
-    assert_eq!(Fault::ALL.iter().filter(|fault| is_found(fault)).count(), 39);
+    assert_eq!(Fault::ALL.iter().filter(|fault| is_found(fault)).count(), 37);
 }
 
 /// The command prints the first line of a list that differs, and fails.

@@ -22,7 +22,7 @@ const DIGESTS: [(&str, u64); 8] = [
     ("test_memcontrol.txt", 0x4821_3e8c_ed00_ebe3),
     ("test_cpu.txt", 0x9a86_a97a_27e2_447e),
     ("agreed.txt", 0x992e_8474_f214_52ec),
-    ("differences.txt", 0xc3b5_484b_a7b3_fbb4),
+    ("differences.txt", 0xb5fc_165a_7b22_8363),
 ];
 
 #[test]

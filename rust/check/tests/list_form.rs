@@ -92,6 +92,7 @@ fn error(file: &str) -> String {
 
 #[test]
 fn other_lines_are_refused() {
+    let too_long = format!("a buffer has {ROOM} bytes at most");
     let rows = [
         ("mkae 0 0 1 = 0", "\"mkae\" is no call"),
         ("make 0 0 = 0", "expected a number, found ="),
@@ -111,7 +112,7 @@ fn other_lines_are_refused() {
         ("read 0 cgroup.procs = 0", "expected a text in quotes, found the end of the line"),
         ("read 0 = 2", "expected the name of a file, without quotes, found ="),
         ("read 0 cgroup.procs large = 28", "expected a number, found large"),
-        ("read 0 cgroup.procs 961 = 28", "a buffer has 960 bytes at most"),
+        (&format!("read 0 cgroup.procs {} = 28", ROOM + 1), &too_long),
         (r#"read 0 cgroup.procs = 2 "1""#, r#"expected the end of the line, found "1""#),
         (r#"read 0 cgroup.procs = 0 "1"#, "a quote is open"),
         (r#"read 0 cgroup.procs = 0 "1"2"#, "expected a space before 2"),

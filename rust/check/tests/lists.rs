@@ -279,13 +279,13 @@ fn a_fork_and_a_move_keep_the_user() {
 }
 
 #[test]
-fn all_that_is_at_depth_8_counts() {
+fn all_that_is_at_depth_16_counts() {
     let tree = |control: &str| {
         let line = control.as_bytes().to_vec();
         let mut calls = vec![WriteSubtreeControl { user: 0, group: 0, line }];
-        calls.extend((0..8).map(|parent| Make { user: 0, parent, group: parent + 1 }));
+        calls.extend((0..16).map(|parent| Make { user: 0, parent, group: parent + 1 }));
         calls.push(Admit { process: 1, user: 0 });
-        calls.push(WriteProcs { user: 0, group: 8, line: b"1".to_vec() });
+        calls.push(WriteProcs { user: 0, group: 16, line: b"1".to_vec() });
         calls
     };
     let limit = |file: &[u8], line: &[u8]| {
@@ -293,9 +293,9 @@ fn all_that_is_at_depth_8_counts() {
     };
     let charges = || vec![Charge { process: 1, pages: 1 }; 2];
     let calls = [tree("+memory"), limit(b"memory.max", b"4096"), charges()].concat();
-    shows("memory.max further up ignores pages at depth 8", 64, &calls);
-    shows("the machine size ignores pages at depth 8", 1, &[tree("+memory"), charges()].concat());
+    shows("memory.max further up ignores pages at depth 16", 64, &calls);
+    shows("the machine size ignores pages at depth 16", 1, &[tree("+memory"), charges()].concat());
     let forks = vec![Fork { parent: 1, process: 2 }];
     let calls = [tree("+pids"), limit(b"pids.max", b"1"), forks].concat();
-    shows("pids.max further up ignores processes at depth 8", 64, &calls);
+    shows("pids.max further up ignores processes at depth 16", 64, &calls);
 }

@@ -16,6 +16,7 @@ both! {
     staying
     in_root
     ends
+    far_up
     rooms
     resetting
     neighbours
@@ -149,25 +150,52 @@ fn in_root<H: Calls>() {
 
 fn ends<H: Calls>() {
     let mut evening = Evening::<H>::of(8);
-    evening.succeed([make(0, 0, 1), make(0, 1, 63), control(0, 0, ALL), control(0, 1, ALL)]);
+    evening.succeed([make(0, 0, 1), make(0, 1, 255), control(0, 0, ALL), control(0, 1, ALL)]);
     evening.succeed([admit(1, 7)]);
-    evening.granted(fork(1, 256), 1);
-    evening.succeed([procs(0, 63, "1"), procs(0, 63, "256"), exit(1)]);
-    evening.get(16, [control(0, 63, "+cpu"), remove(0, 63)]);
-    evening.granted(fork(256, 1), 3);
-    evening.granted(charge(256, 1), 3);
+    evening.granted(fork(1, 1024), 1);
+    evening.succeed([procs(0, 255, "1"), procs(0, 255, "1024"), exit(1)]);
+    evening.get(16, [control(0, 255, "+cpu"), remove(0, 255)]);
+    evening.granted(fork(1024, 1), 3);
+    evening.granted(charge(1024, 1), 3);
     evening.granted(charge(1, 1), 3);
-    evening.belongs(1, "0::/1/63\n");
-    evening.belongs(256, "0::/1/63\n");
-    evening.reads(63, "cgroup.procs", "1\n256\n");
+    evening.belongs(1, "0::/1/255\n");
+    evening.belongs(1024, "0::/1/255\n");
+    evening.reads(255, "cgroup.procs", "1\n1024\n");
     evening.reads(1, "pids.current", "2\n");
     evening.reads(1, "memory.current", "8192\n");
-    evening.succeed([exit(256), exit(1), release(63, 2), setting(0, 63, "cpu.weight", "5")]);
-    evening.succeed([control(0, 63, "+cpu")]);
+    evening.succeed([exit(1024), exit(1), release(255, 2), setting(0, 255, "cpu.weight", "5")]);
+    evening.succeed([control(0, 255, "+cpu")]);
     evening.get(16, [control(0, 1, "-cpu"), remove(0, 1)]);
-    evening.succeed([control(0, 63, "-cpu"), control(0, 1, "-cpu"), control(0, 1, "+cpu")]);
-    evening.reads(63, "cpu.weight", "100\n");
-    evening.succeed([hand_over(0, 63, 7), make(7, 63, 62), remove(7, 62), remove(0, 63)]);
+    evening.succeed([control(0, 255, "-cpu"), control(0, 1, "-cpu"), control(0, 1, "+cpu")]);
+    evening.reads(255, "cpu.weight", "100\n");
+    evening.succeed([hand_over(0, 255, 7), make(7, 255, 254), remove(7, 254), remove(0, 255)]);
+}
+
+fn far_up<H: Calls>() {
+    let mut evening = Evening::<H>::of(8);
+    evening.succeed(descent());
+    evening.succeed([make(0, 240, 1), hand_over(0, 1, 7), control(0, 0, "+memory +pids")]);
+    evening.succeed([admit(5, 7), procs(0, 255, "5")]);
+    evening.unknown_into(67, 5, 28);
+    evening.belongs(5, DEEP_LINE);
+    evening.succeed([setting(0, 240, "memory.max", "4096"), setting(0, 240, "pids.max", "1")]);
+    evening.granted(charge(5, 1), 17);
+    evening.stopped(charge(5, 1), 12, 240, 16);
+    evening.stopped(fork(5, 6), 11, 240, 16);
+    evening.reads(240, "memory.current", "4096\n");
+    for group in [240, 247, 248, 255] {
+        evening.reads(group, "cgroup.events", "populated 1\n");
+    }
+    evening.get(13, [procs(7, 1, "5")]);
+    evening.succeed([hand_over(0, 240, 7), procs(7, 1, "5")]);
+    evening.belongs(5, "0::/240/1\n");
+    for group in [241, 248, 255] {
+        evening.reads(group, "cgroup.events", "populated 0\n");
+    }
+    evening.reads(240, "pids.current", "1\n");
+    evening.reads(240, "memory.current", "4096\n");
+    evening.succeed([release(255, 1)]);
+    evening.reads(240, "memory.current", "0\n");
 }
 
 fn rooms<H: Calls>() {
@@ -401,22 +429,28 @@ fn showing_below<H: Calls>() {
     evening.reads(2, "memory.current", "4096\n");
 }
 
-/// 64 groups and 256 processes, which all stand in group 63, at depth 8.
+/// 256 groups and 1,024 processes, which all stand in group 255, at depth 16.
 fn full<H: Calls>() {
-    let mut evening = Evening::<H>::of(256);
-    for group in 1..64 {
-        evening.succeed([make(0, if group > 56 { group - 1 } else { 0 }, group)]);
+    let mut evening = Evening::<H>::of(1024);
+    for group in 1..256 {
+        evening.succeed([make(0, if group > 240 { group - 1 } else { 0 }, group)]);
     }
-    evening.get(22, [make(0, 0, 64)]);
-    evening.get(17, [make(0, 0, 63)]);
+    evening.get(22, [make(0, 0, 256)]);
+    evening.get(17, [make(0, 0, 255)]);
     let mut lines = String::new();
-    for process in 1..=256 {
-        evening.succeed([admit(process, 0), procs(0, 63, process.to_string())]);
+    for process in 1..=1024 {
+        evening.succeed([admit(process, 0), procs(0, 255, process.to_string())]);
+        evening.granted(charge(process, 1), 17);
         lines += &format!("{process}\n");
     }
-    evening.get(22, [admit(257, 0)]);
-    evening.get(17, [admit(256, 0)]);
-    evening.reads(63, "cgroup.procs", &lines);
-    evening.unread_into(lines.len() - 1, 63, "cgroup.procs", 28);
+    evening.stopped(charge(1024, 1), 12, 0, 17);
+    evening.get(22, [admit(1025, 0)]);
+    evening.get(17, [admit(1024, 0)]);
+    assert_eq!(lines.len(), 4013);
+    evening.reads(255, "cgroup.procs", &lines);
+    evening.unread_into(4012, 255, "cgroup.procs", 28);
     evening.reads(0, "cgroup.procs", "");
+    assert_eq!(DEEP_LINE.len(), 68);
+    evening.belongs(1024, DEEP_LINE);
+    evening.unknown_into(67, 1024, 28);
 }

@@ -26,7 +26,7 @@ both! {
 fn lines_for_procs<H: Calls>() {
     let mut host = H::fresh(1024);
     host.make(0, 0, 1);
-    for process in [5, 255, 256] {
+    for process in [5, 255, 1024] {
         host.admit(process, 0);
     }
     let forty = [&[b'0'; 39][..], b"5"].concat();
@@ -36,8 +36,9 @@ fn lines_for_procs<H: Calls>() {
         (b"  5  \n", 0),
         (b"005", 0),
         (&forty, 0),
-        (b"256", 0),
-        (b"257", 3),
+        (b"1024", 0),
+        (b"1025", 3),
+        (b"256", 3),
         (b"6", 3),
         (b"4294967301", 3),
         (b"18446744073709551621", 3),
@@ -223,7 +224,7 @@ fn cpu_max<H: Calls>() {
 /// Where two checks fail, the one that the paper names first is the answer.
 fn order_of_checks<H: Calls>() {
     let mut host = H::fresh(1024);
-    for group in 1..=8 {
+    for group in 1..=16 {
         host.make(0, group - 1, group);
     }
     host.make(0, 0, 20);
@@ -231,16 +232,16 @@ fn order_of_checks<H: Calls>() {
     host.admit(5, 1000);
     host.write_procs(0, 20, b"5");
 
-    assert_eq!(host.make(0, 30, 64), 22);
+    assert_eq!(host.make(0, 30, 256), 22);
     assert_eq!(host.make(7, 30, 1), 2);
     assert_eq!(host.make(7, 30, 30), 2);
-    assert_eq!(host.make(7, 8, 1), 17);
-    assert_eq!(host.make(7, 8, 8), 17);
+    assert_eq!(host.make(7, 16, 1), 17);
+    assert_eq!(host.make(7, 16, 16), 17);
     assert_eq!(host.make(0, 1, 0), 17);
-    assert_eq!(host.make(7, 8, 9), 13);
-    assert_eq!(host.make(0, 8, 9), 11);
+    assert_eq!(host.make(7, 16, 17), 13);
+    assert_eq!(host.make(0, 16, 17), 11);
 
-    assert_eq!(host.remove(7, 64), 22);
+    assert_eq!(host.remove(7, 256), 22);
     assert_eq!(host.remove(7, 30), 2);
     assert_eq!(host.remove(7, 0), 13);
     assert_eq!(host.remove(0, 0), 16);
@@ -251,7 +252,7 @@ fn order_of_checks<H: Calls>() {
     assert_eq!(host.hand_over(7, 30, 7), 2);
     assert_eq!(host.hand_over(7, 1, 7), 13);
 
-    assert_eq!(host.write_procs(7, 64, b"x"), 22);
+    assert_eq!(host.write_procs(7, 256, b"x"), 22);
     assert_eq!(host.write_procs(7, 30, b"x"), 2);
     assert_eq!(host.write_procs(7, 1, b"x"), 13);
     host.write_subtree_control(0, 1, b"+memory");
@@ -267,7 +268,7 @@ fn order_of_checks<H: Calls>() {
     assert_eq!(host.write_subtree_control(0, 20, b"-memory"), 0);
     assert_eq!(host.write_subtree_control(0, 0, b"-memory +pids"), 16);
 
-    assert_eq!(host.write_setting(7, 64, b"x", b"x"), 22);
+    assert_eq!(host.write_setting(7, 256, b"x", b"x"), 22);
     assert_eq!(host.write_setting(7, 30, b"x", b"x"), 2);
     assert_eq!(host.write_setting(7, 20, b"cpu.max", b"x"), 2);
     assert_eq!(host.write_setting(7, 20, b"pids.max", b"x"), 13);
@@ -276,28 +277,29 @@ fn order_of_checks<H: Calls>() {
     let mut told = [0; 2];
     assert_eq!(host.fork(0, 0, &mut told), 3);
     assert_eq!(host.fork(300, 300, &mut told), 3);
+    assert_eq!(host.fork(1025, 1025, &mut told), 3);
     assert_eq!(host.fork(5, 0, &mut told), 22);
     assert_eq!(host.fork(5, 5, &mut told), 17);
     assert_eq!(host.charge(0, 0, &mut told), 3);
     assert_eq!(host.charge(5, 0, &mut told), 22);
     assert_eq!(host.charge(5, 1_048_577, &mut told), 22);
     assert_eq!(host.exit(0), 3);
-    assert_eq!(host.exit(257), 3);
+    assert_eq!(host.exit(1025), 3);
     assert_eq!(host.admit(0, 0), 22);
-    assert_eq!(host.admit(257, 0), 22);
+    assert_eq!(host.admit(1025, 0), 22);
     assert_eq!(host.admit(5, 0), 17);
-    assert_eq!(host.release(64, 0), 22);
+    assert_eq!(host.release(256, 0), 22);
     assert_eq!(host.release(30, 0), 22);
     assert_eq!(host.release(30, 1), 2);
     assert_eq!(host.release(20, 1), 34);
 
     let mut length = [0];
-    assert_eq!(host.read(64, b"x", &mut [], &mut length), 22);
+    assert_eq!(host.read(256, b"x", &mut [], &mut length), 22);
     assert_eq!(host.read(30, b"x", &mut [], &mut length), 2);
     assert_eq!(host.read(0, b"cgroup.events", &mut [], &mut length), 2);
     assert_eq!(host.read(20, b"cpu.max", &mut [], &mut length), 2);
     assert_eq!(host.read(20, b"pids.max", &mut [], &mut length), 28);
-    assert_eq!(host.membership(257, &mut [], &mut length), 3);
+    assert_eq!(host.membership(1025, &mut [], &mut length), 3);
     assert_eq!(host.membership(5, &mut [], &mut length), 28);
 }
 

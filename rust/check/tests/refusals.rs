@@ -1,6 +1,7 @@
 //! The evenings of `crates/model/specs/Refusals.antt`, run: for each call of document 01 the number
 //! of each refusal, and the earlier one where two checks fail; who may; lines that are malformed.
-//! Group 9 and process 9 are never live.
+//! Group 9 and process 9 are never live. At the end the last numbers where they are not live, which
+//! the table does not have.
 
 #[macro_use]
 mod common;
@@ -23,42 +24,43 @@ both! {
     charging
     releasing
     reading
+    last_numbers
 }
 
 fn making<H: Calls>() {
     let mut evening = Evening::<H>::begun(0);
-    evening.get(22, [make(0, 64, 4), make(0, 64, 1), make(0, 9, 64), make(8, 1, 64)]);
+    evening.get(22, [make(0, 256, 4), make(0, 256, 1), make(0, 9, 256), make(8, 1, 256)]);
     evening.get(2, [make(0, 9, 1), make(0, 9, 9), make(8, 9, 4)]);
     evening.get(17, [make(8, 1, 2), make(8, 0, 0), make(7, 1, 1)]);
     evening.get(13, [make(8, 1, 4), make(7, 0, 4)]);
-    evening.succeed([make(0, 1, 63), make(7, 1, 4)]);
-    evening.get(13, [make(7, 63, 5)]);
-    evening.succeed([hand_over(0, 63, 8)]);
-    evening.get(13, [make(7, 63, 5), make(8, 1, 5)]);
-    evening.succeed([make(8, 63, 5), hand_over(0, 5, u32::MAX)]);
+    evening.succeed([make(0, 1, 255), make(7, 1, 4)]);
+    evening.get(13, [make(7, 255, 5)]);
+    evening.succeed([hand_over(0, 255, 8)]);
+    evening.get(13, [make(7, 255, 5), make(8, 1, 5)]);
+    evening.succeed([make(8, 255, 5), hand_over(0, 5, u32::MAX)]);
     evening.succeed([make(u32::MAX, 5, 6), make(u32::MAX, 6, 7)]);
     evening.get(13, [7 + (1 << 16), 7 + (1 << 31), 1 << 16, 1 << 31].map(|user| make(user, 1, 8)));
 }
 
 fn deepening<H: Calls>() {
     let mut evening = Evening::<H>::of(1);
-    evening.succeed([0, 1, 2, 3, 4, 5, 6, 7].map(|depth| make(0, depth, depth + 1)));
-    evening.get(22, [make(0, 8, 64)]);
-    evening.get(17, [make(0, 8, 1)]);
-    evening.get(13, [make(7, 8, 9)]);
-    evening.get(11, [make(0, 8, 9)]);
-    evening.succeed([admit(5, 7), procs(0, 8, "5")]);
-    evening.granted(charge(5, 1), 9);
-    evening.stopped(charge(5, 1), 12, 0, 9);
-    evening.granted(fork(5, 6), 9);
-    evening.belongs(6, "0::/1/2/3/4/5/6/7/8\n");
+    evening.succeed(descent());
+    evening.get(22, [make(0, 255, 256)]);
+    evening.get(17, [make(0, 255, 240)]);
+    evening.get(13, [make(7, 255, 9)]);
+    evening.get(11, [make(0, 255, 9)]);
+    evening.succeed([admit(5, 7), procs(0, 255, "5")]);
+    evening.granted(charge(5, 1), 17);
+    evening.stopped(charge(5, 1), 12, 0, 17);
+    evening.granted(fork(5, 6), 17);
+    evening.belongs(6, DEEP_LINE);
 }
 
 fn removing<H: Calls>() {
     Evening::<H>::of(0).get(16, [remove(0, 0)]);
     let mut evening = Evening::<H>::begun(0);
     evening.succeed([procs(0, 2, "5")]);
-    evening.get(22, [remove(7, 64)]);
+    evening.get(22, [remove(7, 256)]);
     evening.get(2, [remove(7, 9)]);
     evening.get(13, [remove(7, 1), remove(7, 0), remove(8, 2)]);
     evening.get(16, [remove(0, 0), remove(0, 1), remove(7, 2)]);
@@ -71,7 +73,7 @@ fn removing<H: Calls>() {
 
 fn handing<H: Calls>() {
     let mut evening = Evening::<H>::begun(0);
-    evening.get(22, [hand_over(7, 0, 7), hand_over(7, 64, 7)]);
+    evening.get(22, [hand_over(7, 0, 7), hand_over(7, 256, 7)]);
     evening.get(2, [hand_over(7, 9, 7)]);
     evening.get(13, [hand_over(7, 1, 8), hand_over(7, 2, 8), make(8, 1, 4)]);
     evening.succeed([hand_over(0, 1, 7), hand_over(0, 1, 0)]);
@@ -81,16 +83,16 @@ fn handing<H: Calls>() {
 fn moving<H: Calls>() {
     let mut evening = Evening::<H>::begun(0);
     evening.succeed([control(0, 0, "+cpu"), control(7, 1, "+cpu")]);
-    evening.get(22, ["x", "257"].map(|line| procs(8, 64, line)));
-    evening.get(2, ["x", "257"].map(|line| procs(8, 9, line)));
-    evening.get(13, ["x", "0", "9", "257"].map(|line| procs(8, 2, line)));
+    evening.get(22, ["x", "1025"].map(|line| procs(8, 256, line)));
+    evening.get(2, ["x", "1025"].map(|line| procs(8, 9, line)));
+    evening.get(13, ["x", "0", "9", "1025"].map(|line| procs(8, 2, line)));
     evening.get(13, [procs(8, 2, padded(129, "5")), procs(7, 0, "5")]);
     let malformed = ["", "x", "5 6", "+5", "-1", "5\t", "5\n\n", "5\r\n", "0", "000"];
     evening.get(22, malformed.map(|line| procs(7, 2, line)));
     evening.get(22, ["5:", "/5", ":", "\n5"].map(|line| procs(7, 2, line)));
-    let long = [padded(129, "9"), padded(129, "257"), padded(128, "5") + "\n"];
+    let long = [padded(129, "9"), padded(129, "1025"), padded(128, "5") + "\n"];
     evening.get(22, long.map(|line| procs(7, 2, line)));
-    let strangers = ["9", "257", "4294967301", "18446744073709551621"];
+    let strangers = ["9", "1025", "4294967301", "18446744073709551621"];
     evening.get(3, strangers.map(|line| procs(7, 2, line)));
     evening.get(13, [procs(7, 2, "5")]);
     evening.succeed([procs(0, 2, "5"), procs(0, 2, "6")]);
@@ -105,7 +107,7 @@ fn moving<H: Calls>() {
 fn controlling<H: Calls>() {
     let mut evening = Evening::<H>::begun(0);
     evening.succeed([control(0, 0, "+cpu +memory"), hand_over(0, 3, 8)]);
-    evening.get(22, [control(8, 64, "x")]);
+    evening.get(22, [control(8, 256, "x")]);
     evening.get(2, [control(8, 9, "x")]);
     evening.get(13, [control(8, 1, "x"), control(8, 1, "+pids"), control(8, 1, padded(129, ""))]);
     evening.get(13, [control(7, 3, ""), control(7, 0, "")]);
@@ -158,7 +160,7 @@ fn setting_forms<H: Calls>() {
     let mut evening = Evening::<H>::begun(0);
     evening.succeed([control(0, 0, "+cpu +memory"), control(7, 1, "+cpu"), hand_over(0, 2, 8)]);
     evening.succeed([make(8, 2, 4), control(8, 2, "+cpu")]);
-    evening.get(22, [setting(8, 64, "cpu", "x")]);
+    evening.get(22, [setting(8, 256, "cpu", "x")]);
     evening.get(2, [setting(8, 9, "cpu.max", "x"), setting(8, 2, "memory.max", "x")]);
     evening.get(2, [setting(0, 0, "cpu.weight", "100")]);
     let files = ["cpu", "memory.current", "cpu.maxx", "cpu.max\n", "CPU.MAX", ""];
@@ -188,14 +190,14 @@ fn limit_forms<H: Calls>() {
 
 fn births<H: Calls>() {
     let mut evening = Evening::<H>::begun(0);
-    evening.get(22, [admit(0, 7), admit(257, 7)]);
+    evening.get(22, [admit(0, 7), admit(1025, 7)]);
     evening.get(17, [admit(5, 8)]);
-    evening.succeed([admit(256, 0)]);
-    evening.belongs(256, "0::/\n");
+    evening.succeed([admit(1024, 0)]);
+    evening.belongs(1024, "0::/\n");
     evening.granted(fork(5, 4), 1);
     evening.succeed([control(0, 0, "+pids"), setting(0, 1, "pids.max", "0"), procs(0, 2, "5")]);
-    evening.get(3, [fork(0, 257), fork(257, 0), fork(9, 0), fork(9, 5)]);
-    evening.get(22, [fork(5, 0), fork(5, 257)]);
+    evening.get(3, [fork(0, 1025), fork(1025, 0), fork(9, 0), fork(9, 5)]);
+    evening.get(22, [fork(5, 0), fork(5, 1025)]);
     evening.get(17, [fork(5, 5), fork(5, 6)]);
     evening.stopped(fork(5, 7), 11, 1, 2);
     evening.succeed([setting(0, 1, "pids.max", "2")]);
@@ -203,7 +205,7 @@ fn births<H: Calls>() {
     evening.stopped(fork(5, 8), 11, 1, 2);
     evening.succeed([procs(7, 3, "7")]);
     evening.belongs(7, "0::/1/3\n");
-    evening.get(3, [exit(0), exit(9), exit(257)]);
+    evening.get(3, [exit(0), exit(9), exit(1025)]);
     evening.succeed([exit(7)]);
     evening.get(3, [exit(7)]);
     evening.succeed([admit(7, 0)]);
@@ -211,7 +213,7 @@ fn births<H: Calls>() {
 
 fn charging<H: Calls>() {
     let mut evening = Evening::<H>::begun(0);
-    evening.get(3, [charge(0, 0), charge(257, 0), charge(9, 1048577)]);
+    evening.get(3, [charge(0, 0), charge(1025, 0), charge(9, 1048577)]);
     evening.get(22, [charge(5, 0), charge(5, 1048577)]);
     evening.stopped(charge(5, 1), 12, 0, 1);
 }
@@ -224,7 +226,7 @@ fn releasing<H: Calls>() {
     evening.granted(charge(5, 1048576), 3);
     evening.stopped(charge(5, 1), 12, 0, 3);
     evening.stopped(charge(6, 1), 12, 0, 1);
-    evening.get(22, [release(64, 1), release(9, 0), release(9, 1048577), release(1, 1048577)]);
+    evening.get(22, [release(256, 1), release(9, 0), release(9, 1048577), release(1, 1048577)]);
     evening.get(2, [release(9, 1)]);
     evening.get(34, [release(1, 1)]);
     evening.succeed([release(2, 1048576)]);
@@ -234,8 +236,8 @@ fn releasing<H: Calls>() {
 fn reading<H: Calls>() {
     let mut evening = Evening::<H>::of(0);
     evening.succeed([make(0, 0, 1), admit(200, 0), admit(3, 0), admit(12, 0)]);
-    evening.unread(64, "cgroup", 22);
-    evening.unread(64, "cgroup.events", 22);
+    evening.unread(256, "cgroup", 22);
+    evening.unread(256, "cgroup.events", 22);
     evening.unread(9, "cgroup.events", 2);
     evening.unread(0, "cgroup.events", 2);
     evening.unread(1, "cpu.max", 2);
@@ -243,6 +245,31 @@ fn reading<H: Calls>() {
     evening.absent(1, ["cgroup", "cgroup.procsx", "cgroup.procs\n", "CGROUP.PROCS", ""]);
     evening.unknown(0, 3);
     evening.unknown(9, 3);
-    evening.unknown(257, 3);
+    evening.unknown(1025, 3);
     evening.unknown(12, 28);
+}
+
+/// The last numbers are in range where they are not live, in every call; those after them are not.
+fn last_numbers<H: Calls>() {
+    let mut evening = Evening::<H>::begun(0);
+    evening.succeed([control(0, 0, ALL), setting(0, 1, "pids.max", "0"), procs(0, 2, "5")]);
+    for (group, number) in [(63, 2), (64, 2), (254, 2), (255, 2), (256, 22), (257, 22)] {
+        evening.get(number, [make(8, group, 1), remove(8, group), hand_over(8, group, 8)]);
+        evening.get(number, [procs(8, group, "x"), control(8, group, "x"), release(group, 1)]);
+        evening.get(number, [setting(8, group, "pids.max", "x")]);
+        evening.unread(group, "cgroup.procs", number);
+    }
+    evening.get(13, [63, 64, 254, 255].map(|group| make(8, 1, group)));
+    evening.get(22, [256, 257].map(|group| make(8, 1, group)));
+    for process in [256, 257, 1023, 1024, 1025, 1026] {
+        evening.get(3, [exit(process), charge(process, 0), fork(process, 0)]);
+        evening.get(3, [procs(0, 1, process.to_string())]);
+        evening.unknown(process, 3);
+    }
+    for process in [256, 257, 1023, 1024] {
+        evening.stopped(fork(5, process), 11, 1, 2);
+    }
+    evening.get(22, [1025, 1026].map(|process| fork(5, process)));
+    evening.get(22, [1025, 1026].map(|process| admit(process, 0)));
+    evening.succeed([256, 257, 1023, 1024].map(|process| admit(process, 0)));
 }

@@ -5,7 +5,9 @@ use std::collections::BTreeMap;
 
 use shootspiral_check::checks::{Check, TABLE, besides, with, write_procs, write_setting};
 use shootspiral_check::generate::Generator;
-use shootspiral_check::model::{CONTROLLERS, CPU, IO, MEMORY, Model, PIDS};
+use shootspiral_check::model::{
+    CONTROLLERS, CPU, IO, LAST_GROUP, LAST_PROCESS, MEMORY, Model, PIDS,
+};
 use shootspiral_check::{Call, Calls};
 
 const SEEDS: std::ops::RangeInclusive<u64> = 1..=100;
@@ -17,7 +19,7 @@ const OFTEN: u64 = 2;
 const SELDOM: (&Check, &Check) = (write_procs::MAY_NOT_WRITE, write_procs::HAS_SET);
 
 /// Each place, and how often a run must come to it.
-const PLACES: [(&str, u64); 53] = [
+const PLACES: [(&str, u64); 58] = [
     ("make under a group not live", 20),
     ("remove of a group not live", 20),
     ("hand_over of a group not live", 20),
@@ -32,10 +34,10 @@ const PLACES: [(&str, u64); 53] = [
     ("membership of a process not live", 20),
     ("a group made again under another parent", 20),
     ("a group with pages removed at depth 4 or below", 5),
-    ("a group made under depth 7", 20),
-    ("a group not made under depth 8", 20),
-    ("a charge at depth 8 stopped at depth 1 to 6", 5),
-    ("a fork at depth 8 stopped at depth 1 to 6", 3),
+    ("a group made under depth 15", 20),
+    ("a group not made under depth 16", 20),
+    ("a charge at depth 16 stopped at depth 1 to 14", 5),
+    ("a fork at depth 16 stopped at depth 1 to 14", 3),
     ("a charge above 2^24 pages", 20),
     ("a limit that stops a charge above 2^24 pages", 10),
     ("a release from more than 2^22 own pages", 20),
@@ -56,8 +58,13 @@ const PLACES: [(&str, u64); 53] = [
     ("a fork of the 255th process inside", 3),
     ("a fork of the 256th process inside", 3),
     ("a fork stopped at 255 processes", 3),
-    ("every process in a buffer that they fill", 2),
-    ("every process in a buffer one byte short", 2),
+    ("a fork of the 1024th process inside", 1),
+    ("a fork stopped at 1023 processes", 1),
+    ("every process in a buffer that they fill", 1),
+    ("every process in a buffer one byte short", 1),
+    ("a group above 63", 1000),
+    ("a process above 256", 1000),
+    ("more than 64 groups", 100),
     ("a long line without a bad word", 5),
     ("a long line with a bad word first", 5),
     ("a long line with a bad word last", 5),
@@ -80,7 +87,7 @@ fn every_place_is_come_to() {
         let mut generator = Generator::new(seed);
         let mut model = Model::fresh(generator.machine());
         let mut parents = BTreeMap::new();
-        for _ in 0..CALLS {
+        for _ in 0..generator.length(CALLS) {
             let call = generator.next(&model);
             let before = model.clone();
             let answer = call.on(&mut model, 0);
@@ -107,7 +114,7 @@ fn pairs_of_checks_are_come_to() {
     for seed in SEEDS {
         let mut generator = Generator::new(seed);
         let mut model = Model::fresh(generator.machine());
-        for _ in 0..CALLS {
+        for _ in 0..generator.length(CALLS) {
             let call = generator.next(&model);
             for pair in besides(&model.held(&call)) {
                 *counts.entry(pair).or_default() += 1;
@@ -135,12 +142,16 @@ fn places(model: &Model, call: &Call, number: u32, told: &[u64]) -> Vec<String> 
             places.push(place.into());
         }
     };
+    note(number == 0 && call.groups().iter().any(|&group| group > 63), "a group above 63");
+    let processes = call.processes();
+    note(number == 0 && processes.iter().any(|&process| process > 256), "a process above 256");
+    note(model.live_groups().count() > 64, "more than 64 groups");
     let own = |group: u64| model.group(group).map_or(0, |kept| kept.own_pages);
     let refused_by = model.held(call).first().copied();
     match call {
         Call::Make { parent, .. } => {
-            note(number == 11, "a group not made under depth 8");
-            note(number == 0 && model.depth(*parent) == 7, "a group made under depth 7");
+            note(number == 11, "a group not made under depth 16");
+            note(number == 0 && model.depth(*parent) == 15, "a group made under depth 15");
         }
         Call::Remove { group, .. } => {
             let is_deep = number == 0 && model.depth(*group) >= 4;
@@ -150,7 +161,7 @@ fn places(model: &Model, call: &Call, number: u32, told: &[u64]) -> Vec<String> 
         }
         Call::Charge { process, .. } => {
             let is_far = is_far_below(model, *process, told[0]);
-            note(number == 12 && is_far, "a charge at depth 8 stopped at depth 1 to 6");
+            note(number == 12 && is_far, "a charge at depth 16 stopped at depth 1 to 14");
             let many = 1 << 24;
             note(number == 0 && model.usage(0) > many, "a charge above 2^24 pages");
             let stops = number == 12 && told[0] != 0 && model.usage(told[0]) > many;
@@ -200,13 +211,16 @@ fn places(model: &Model, call: &Call, number: u32, told: &[u64]) -> Vec<String> 
             note(number == 0 && inside == 254, "a fork of the 255th process inside");
             note(number == 0 && inside == 255, "a fork of the 256th process inside");
             note(number == 11 && inside == 255, "a fork stopped at 255 processes");
+            note(number == 0 && inside == 1023, "a fork of the 1024th process inside");
+            note(number == 11 && inside == 1023, "a fork stopped at 1023 processes");
             let is_far = is_far_below(model, *parent, told[0]);
-            note(number == 11 && is_far, "a fork at depth 8 stopped at depth 1 to 6");
+            note(number == 11 && is_far, "a fork at depth 16 stopped at depth 1 to 14");
         }
         Call::Read { group, room, .. } => {
-            let all = model.holds(*group).count() == 256;
-            note(all && (*room, told[0]) == (916, 916), "every process in a buffer that they fill");
-            note(all && (*room, number) == (915, 28), "every process in a buffer one byte short");
+            let all = model.holds(*group).count() == 1024;
+            let (filled, short) = ((*room, told[0]) == (4013, 4013), (*room, number) == (4012, 28));
+            note(all && filled, "every process in a buffer that they fill");
+            note(all && short, "every process in a buffer one byte short");
         }
         Call::FirstBadWord { line } if line.len() > 2_000 => {
             let after = line.len() as u64 - told[0] - told[1];
@@ -243,10 +257,10 @@ fn device_places(model: &Model, group: u64, line: &[u8]) -> Vec<String> {
     places.into_iter().filter(|(holds, _)| *holds).map(|(_, place)| place.into()).collect()
 }
 
-/// Whether the process is at depth 8, and the group at depth 1 to 6.
+/// Whether the process is at depth 16, and the group at depth 1 to 14.
 fn is_far_below(model: &Model, process: u64, group: u64) -> bool {
     let depth = model.process(process).map(|kept| model.depth(kept.group));
-    depth == Some(8) && (1..=6).contains(&model.depth(group))
+    depth == Some(16) && (1..=14).contains(&model.depth(group))
 }
 
 /// Whether the line has one of the two bytes beside the digits.
@@ -272,10 +286,10 @@ fn absent(model: &Model, call: &Call) -> Vec<String> {
         Call::Admit { .. } | Call::FirstBadWord { .. } => (None, None, ""),
     };
     let mut places = vec![];
-    if group.is_some_and(|group| group <= 63 && model.group(group).is_none()) {
+    if group.is_some_and(|group| group <= LAST_GROUP && model.group(group).is_none()) {
         places.push(format!("{} {how} a group not live", call.name()));
     }
-    if process.is_some_and(|n| (1..=256).contains(&n) && model.process(n).is_none()) {
+    if process.is_some_and(|n| (1..=LAST_PROCESS).contains(&n) && model.process(n).is_none()) {
         places.push(format!("{} {how} a process not live", call.name()));
     }
     places

@@ -3,7 +3,7 @@
 
 use std::fmt;
 
-use crate::number::{GroupId, LONGEST_REPLY, ProcessId, User};
+use crate::number::{GroupId, LONGEST_MEMBERSHIP, LONGEST_REPLY, ProcessId, User};
 use crate::refusal::{Denial, Refusal};
 use crate::sys;
 
@@ -47,8 +47,8 @@ impl Host {
 
     /// Makes `group` under `parent`; `user` owns it.
     ///
-    /// EINVAL: a number above 63. ENOENT: `parent` is not live. EEXIST: `group` is live. EACCES:
-    /// `user` may not write `parent`. EAGAIN: `parent` is at depth 8.
+    /// EINVAL: a number above 255. ENOENT: `parent` is not live. EEXIST: `group` is live. EACCES:
+    /// `user` may not write `parent`. EAGAIN: `parent` is at depth 16.
     ///
     /// ```
     /// # use shootspiral::{GroupId, Host, Refusal, User};
@@ -64,7 +64,7 @@ impl Host {
 
     /// Removes `group`; its own pages pass to its parent.
     ///
-    /// EINVAL: above 63. ENOENT: not live. EACCES: `user` may not write its parent, or it is the
+    /// EINVAL: above 255. ENOENT: not live. EACCES: `user` may not write its parent, or it is the
     /// root and `user` is not user 0. EBUSY: the root, or it has a live child or process.
     ///
     /// ```
@@ -82,7 +82,7 @@ impl Host {
 
     /// Gives `group` to `owner`: delegation.
     ///
-    /// EINVAL: the root, or above 63. ENOENT: not live. EACCES: `user` is not user 0.
+    /// EINVAL: the root, or above 255. ENOENT: not live. EACCES: `user` is not user 0.
     ///
     /// ```
     /// # use shootspiral::{GroupId, Host, Refusal, User};
@@ -99,7 +99,7 @@ impl Host {
 
     /// Writes cgroup.procs: moves the process that the line names into `group`. Its pages stay.
     ///
-    /// EINVAL: above 63. ENOENT: not live. EACCES: `user` may not write `group`. EINVAL: the line
+    /// EINVAL: above 255. ENOENT: not live. EACCES: `user` may not write `group`. EINVAL: the line
     /// is not one number word, or 0. ESRCH: no such live process. EACCES: `user` is not user 0, and
     /// not the process's or may not write the common ancestor. EBUSY: `group` is not the root and
     /// its subtree_control is not empty.
@@ -129,7 +129,7 @@ impl Host {
 
     /// Writes cgroup.subtree_control: turns controllers on and off in the children of `group`.
     ///
-    /// EINVAL: above 63. ENOENT: not live. EACCES: `user` may not write `group`. EINVAL: a word
+    /// EINVAL: above 255. ENOENT: not live. EACCES: `user` may not write `group`. EINVAL: a word
     /// that is not a sign and a controller. ENOENT: a wanted controller is not available. EBUSY:
     /// one that leaves is in a child's set, or one joins where a process stands, but for the root.
     ///
@@ -161,7 +161,7 @@ impl Host {
 
     /// Writes memory.max, pids.max, cpu.weight, cpu.max or io.max of `group`.
     ///
-    /// EINVAL: above 63. ENOENT: not live, not one of the five, or its controller not on. EACCES:
+    /// EINVAL: above 255. ENOENT: not live, not one of the five, or its controller not on. EACCES:
     /// `user` may not write the parent. EINVAL: malformed. ERANGE: a figure outside its range.
     /// ENOSPC: a device would be held beside four others.
     ///
@@ -229,14 +229,14 @@ impl Host {
 
     /// Admits a process of `user` into the root.
     ///
-    /// EINVAL: outside 1 to 256. EEXIST: live.
+    /// EINVAL: outside 1 to 1024. EEXIST: live.
     ///
     /// ```
     /// # use shootspiral::{Host, ProcessId, Refusal, User};
     /// let mut host = Host::fresh(1024);
-    /// assert_eq!(host.admit(ProcessId(256), User(1000)), Ok(()));
-    /// assert_eq!(host.admit(ProcessId(256), User(1000)), Err(Refusal::Eexist));
-    /// assert_eq!(host.admit(ProcessId(257), User(1000)), Err(Refusal::Einval));
+    /// assert_eq!(host.admit(ProcessId(1024), User(1000)), Ok(()));
+    /// assert_eq!(host.admit(ProcessId(1024), User(1000)), Err(Refusal::Eexist));
+    /// assert_eq!(host.admit(ProcessId(1025), User(1000)), Err(Refusal::Einval));
     /// ```
     pub fn admit(&mut self, process: ProcessId, user: User) -> Result<(), Refusal> {
         // SAFETY: `tree` as the field says.
@@ -246,7 +246,7 @@ impl Host {
     /// Forks `parent`: `process` is live in its cgroup, with its user. Answers the number of
     /// cgroups consulted.
     ///
-    /// ESRCH: no such live parent. EINVAL: `process` outside 1 to 256. EEXIST: it is live. EAGAIN:
+    /// ESRCH: no such live parent. EINVAL: `process` outside 1 to 1024. EEXIST: it is live. EAGAIN:
     /// a cgroup on the way up with pids on would hold more processes than its pids.max.
     ///
     /// ```
@@ -311,7 +311,7 @@ impl Host {
 
     /// Releases own pages of `group`.
     ///
-    /// EINVAL: above 63, or `pages` outside 1 to 1,048,576. ENOENT: not live. ERANGE: more than the
+    /// EINVAL: above 255, or `pages` outside 1 to 1,048,576. ENOENT: not live. ERANGE: more than the
     /// own pages of `group`.
     ///
     /// ```
@@ -330,7 +330,7 @@ impl Host {
 
     /// Reads a file of `group`.
     ///
-    /// EINVAL: above 63. ENOENT: not live, or the file is absent there.
+    /// EINVAL: above 255. ENOENT: not live, or the file is absent there.
     ///
     /// ```
     /// # use shootspiral::{GroupId, Host, Refusal};
@@ -340,7 +340,7 @@ impl Host {
     /// ```
     pub fn read(&self, group: GroupId, file: impl AsRef<[u8]>) -> Result<Vec<u8>, Refusal> {
         let file = file.as_ref();
-        whole(|reply| self.read_into(group, file, reply))
+        whole(LONGEST_REPLY, |reply| self.read_into(group, file, reply))
     }
 
     /// Reads a file of `group` into the front of `reply` and answers the length of the text; the
@@ -399,7 +399,7 @@ impl Host {
     /// # Ok::<(), Refusal>(())
     /// ```
     pub fn membership(&self, process: ProcessId) -> Result<Vec<u8>, Refusal> {
-        whole(|reply| self.membership_into(process, reply))
+        whole(LONGEST_MEMBERSHIP, |reply| self.membership_into(process, reply))
     }
 
     /// Writes the membership line into the front of `reply` and answers its length; the bytes after
@@ -466,9 +466,12 @@ fn refusal(number: u32) -> Refusal {
     }
 }
 
-/// A whole reply, however long: the buffer grows while it is too short.
-fn whole(read: impl Fn(&mut [u8]) -> Result<usize, Refusal>) -> Result<Vec<u8>, Refusal> {
-    let mut reply = vec![0; LONGEST_REPLY];
+/// A whole reply, mostly of no more bytes than this: the buffer grows while it is too short.
+fn whole(
+    longest: usize,
+    read: impl Fn(&mut [u8]) -> Result<usize, Refusal>,
+) -> Result<Vec<u8>, Refusal> {
+    let mut reply = vec![0; longest];
     loop {
         match read(&mut reply) {
             Ok(length) => {

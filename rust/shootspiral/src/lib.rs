@@ -1,4 +1,4 @@
-//! Shootspiral is a host for a cgroup-v2-like hierarchy: cgroups 0 to 63, processes 1 to 256, the
+//! Shootspiral is a host for a cgroup-v2-like hierarchy: cgroups 0 to 255, processes 1 to 1024, the
 //! controllers cpu, io, memory and pids, delegation, and limits on pages and processes. Its calls are
 //! proved to answer as document 01 says, with the orders of document 02 that have landed; this crate
 //! is the safe way to them from Rust, and has no rule of its own. It keeps no kernel cgroup and asks

@@ -2,7 +2,8 @@
 //! and replies come through as they are.
 
 use shootspiral::number::{
-    LAST_GROUP, LAST_PROCESS, LONGEST_IO_MAX, LONGEST_REPLY, MAX_DEPTH, MAX_DEVICES, TREE_WORDS,
+    LAST_GROUP, LAST_PROCESS, LONGEST_IO_MAX, LONGEST_MEMBERSHIP, LONGEST_REPLY, MAX_DEPTH,
+    MAX_DEVICES, TREE_WORDS,
 };
 use shootspiral::{Denial, GroupId, Host, ProcessId, Refusal, User, file, first_bad_word, sys};
 
@@ -24,6 +25,7 @@ fn the_header_says_the_same() {
         ("SS_MAX_MACHINE_PAGES", shootspiral::number::MAX_MACHINE_PAGES),
         ("SS_MAX_LINE", shootspiral::number::MAX_LINE as u64),
         ("SS_LONGEST_REPLY", LONGEST_REPLY as u64),
+        ("SS_LONGEST_MEMBERSHIP", LONGEST_MEMBERSHIP as u64),
         ("SS_LONGEST_CHAIN", MAX_DEPTH + 1),
         ("SS_MAX_DEVICES", MAX_DEVICES as u64),
         ("SS_LONGEST_IO_MAX", LONGEST_IO_MAX as u64),
@@ -43,28 +45,65 @@ fn the_header_says_the_same() {
     }
 }
 
-/// 64 cgroups of which eight are one below the other, and 256 processes in the lowest.
-#[test]
-fn a_full_tree() {
+/// 256 cgroups, of which the last sixteen stand one below the other, and 1,024 processes in the lowest.
+fn full_tree() -> Host {
     let mut host = Host::fresh(1024);
-    for depth in 0..MAX_DEPTH {
-        host.make(User::ROOT, GroupId(depth), GroupId(depth + 1)).unwrap();
+    host.make(User::ROOT, GroupId::ROOT, GroupId(240)).unwrap();
+    for group in 241..=255 {
+        host.make(User::ROOT, GroupId(group - 1), GroupId(group)).unwrap();
     }
-    let lowest = GroupId(MAX_DEPTH);
-    assert_eq!(host.make(User::ROOT, lowest, GroupId(9)), Err(Refusal::Eagain));
-    for group in MAX_DEPTH + 1..=LAST_GROUP.0 {
+    assert_eq!(host.make(User::ROOT, GroupId(255), GroupId(1)), Err(Refusal::Eagain));
+    assert_eq!(host.make(User::ROOT, GroupId(254), GroupId(1)), Ok(()));
+    for group in 2..240 {
         host.make(User::ROOT, GroupId::ROOT, GroupId(group)).unwrap();
     }
-    for process in 1..=LAST_PROCESS.0 {
+    for process in 1..=1024 {
         host.admit(ProcessId(process), User(1000)).unwrap();
-        host.write_procs(User::ROOT, lowest, process.to_string()).unwrap();
+        host.write_procs(User::ROOT, GroupId(255), process.to_string()).unwrap();
     }
-    let procs = host.read(lowest, file::PROCS).unwrap();
-    assert_eq!(procs.len(), LONGEST_REPLY);
-    let expected: String = (1..=LAST_PROCESS.0).map(|process| format!("{process}\n")).collect();
-    assert_eq!(procs, expected.as_bytes());
-    assert_eq!(host.membership(LAST_PROCESS).unwrap(), b"0::/1/2/3/4/5/6/7/8\n");
-    assert_eq!(host.charge(LAST_PROCESS, 1), Ok(9));
+    host
+}
+
+#[test]
+fn a_full_tree() {
+    let mut host = full_tree();
+    assert_eq!((LAST_GROUP, LAST_PROCESS, MAX_DEPTH), (GroupId(255), ProcessId(1024), 16));
+    assert_eq!(host.make(User::ROOT, GroupId::ROOT, GroupId(255)), Err(Refusal::Eexist));
+    assert_eq!(host.make(User::ROOT, GroupId::ROOT, GroupId(256)), Err(Refusal::Einval));
+    assert_eq!(host.admit(ProcessId(1024), User(1000)), Err(Refusal::Eexist));
+    assert_eq!(host.admit(ProcessId(1025), User(1000)), Err(Refusal::Einval));
+    assert_eq!(host.charge(ProcessId(1), 1), Ok(17));
+    assert_eq!(host.charge(ProcessId(1024), 1023), Ok(17));
+    let denial = Denial { refusal: Refusal::Enomem, group: Some(GroupId::ROOT), consulted: 17 };
+    assert_eq!(host.charge(ProcessId(1024), 1), Err(denial));
+}
+
+#[test]
+fn the_longest_reply() {
+    let host = full_tree();
+    let expected: String = (1..=1024).map(|process| format!("{process}\n")).collect();
+    assert_eq!((expected.len(), LONGEST_REPLY), (4013, 4013));
+    assert_eq!(host.read(GroupId(255), file::PROCS).unwrap(), expected.as_bytes());
+    let mut reply = vec![b'.'; 4013];
+    assert_eq!(host.read_into(GroupId(255), file::PROCS, &mut reply), Ok(4013));
+    assert_eq!(reply, expected.as_bytes());
+    let mut short = vec![b'.'; 4012];
+    assert_eq!(host.read_into(GroupId(255), file::PROCS, &mut short), Err(Refusal::Enospc));
+    assert_eq!(short, vec![b'.'; 4012]);
+}
+
+#[test]
+fn the_longest_membership_line() {
+    let host = full_tree();
+    let line = b"0::/240/241/242/243/244/245/246/247/248/249/250/251/252/253/254/255\n";
+    assert_eq!((line.len(), LONGEST_MEMBERSHIP), (68, 68));
+    assert_eq!(host.membership(ProcessId(1024)).unwrap(), line);
+    let mut reply = [b'.'; 68];
+    assert_eq!(host.membership_into(ProcessId(1024), &mut reply), Ok(68));
+    assert_eq!(&reply, line);
+    let mut short = [b'.'; 67];
+    assert_eq!(host.membership_into(ProcessId(1024), &mut short), Err(Refusal::Enospc));
+    assert_eq!(short, [b'.'; 67]);
 }
 
 /// Cgroup 1 with the last devices that there can be, and the lines that io.max shows of them.
@@ -117,12 +156,12 @@ fn io_that_leaves_takes_the_devices_with_it() {
 #[test]
 fn numbers_out_of_range_are_refused() {
     let mut host = Host::fresh(1024);
-    for group in [64, 1 << 32, u64::MAX].map(GroupId) {
+    for group in [256, 1 << 32, u64::MAX].map(GroupId) {
         assert_eq!(host.make(User::ROOT, GroupId::ROOT, group), Err(Refusal::Einval));
         assert_eq!(host.read(group, file::PROCS), Err(Refusal::Einval));
         assert_eq!(host.release(group, 1), Err(Refusal::Einval));
     }
-    for process in [0, 257, 1 << 32, u64::MAX].map(ProcessId) {
+    for process in [0, 1025, 1 << 32, u64::MAX].map(ProcessId) {
         let none = Denial { refusal: Refusal::Esrch, group: None, consulted: 0 };
         assert_eq!(host.admit(process, User::ROOT), Err(Refusal::Einval));
         assert_eq!(host.charge(process, 1), Err(none));

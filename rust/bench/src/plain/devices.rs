@@ -1,9 +1,9 @@
 //! io.max of the plain host: the devices of a group, and the lines that change them.
 
+use shootspiral::number::MAX_DEVICES;
+
 use super::Errno::{Einval, Enospc, Erange};
 use super::{Done, limit, number, within, words};
-
-const MAX_DEVICES: usize = 4;
 
 /// The keys of io.max, in the order in which they are shown.
 pub const KEYS: [&[u8]; 4] = [b"rbps", b"wbps", b"riops", b"wiops"];

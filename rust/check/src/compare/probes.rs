@@ -3,7 +3,7 @@
 use super::Pair;
 use crate::call::Call;
 use crate::calls::Calls;
-use crate::model::EMPTY;
+use crate::model::{EMPTY, LAST_GROUP};
 
 /// The most pages of one release.
 const MOST_PAGES: u64 = 1_048_576;
@@ -19,17 +19,23 @@ impl<H: Calls> Pair<H> {
         probes
     }
 
-    /// Everyone writes to every group. That user 0 may says nothing: a wrong owner in his place
-    /// shows if it is one of the others.
+    /// Everyone writes to every group, those first that may not. That user 0 may says nothing: a
+    /// wrong owner in his place shows if it is one of the others.
     fn probe_owners(&self, probes: &mut Vec<Call>) {
+        let mut granted = vec![];
         for group in self.model.live_groups() {
-            let write = |&user| Call::WriteSubtreeControl { user, group, line: vec![] };
-            probes.extend(self.users.iter().map(write));
+            for &user in &self.users {
+                let write = Call::WriteSubtreeControl { user, group, line: vec![] };
+                let may = self.model.may_write(user, group);
+                (if may { &mut granted } else { &mut *probes }).push(write);
+            }
         }
+        probes.extend(granted);
     }
 
     /// Everything is released, as quickly as can be, and then there is not a page more.
     fn probe_pages(&self, releases: u64, probes: &mut Vec<Call>) {
+        let mut refused = vec![];
         for group in self.model.live_groups() {
             let own = self.model.group(group).expect("a live group").own_pages;
             let whole = (own / MOST_PAGES).min(releases);
@@ -37,9 +43,10 @@ impl<H: Calls> Pair<H> {
             let rest = own - whole * MOST_PAGES;
             if rest < MOST_PAGES {
                 probes.extend((rest > 0).then_some(Call::Release { group, pages: rest }));
-                probes.push(Call::Release { group, pages: 1 });
+                refused.push(Call::Release { group, pages: 1 });
             }
         }
+        probes.extend(refused);
     }
 
     /// Each process is moved to where it is by its user, who is made the group's owner for that.
@@ -73,12 +80,12 @@ impl<H: Calls> Pair<H> {
     /// empty.
     fn aside(&self, probes: &mut Vec<Call>) -> Option<u64> {
         self.model.holds(0).next()?;
-        match (1..=63).find(|&group| self.model.group(group).is_none()) {
+        match (1..=LAST_GROUP).find(|&group| self.model.group(group).is_none()) {
             Some(group) => {
                 probes.push(Call::Make { user: 0, parent: 0, group });
                 Some(group)
             }
-            None => (1..=63)
+            None => (1..=LAST_GROUP)
                 .find(|&group| self.model.group(group).is_some_and(|kept| kept.set == EMPTY)),
         }
     }

@@ -2,7 +2,7 @@
 
 use crate::call::Call;
 use crate::compare::FILES;
-use crate::model::{CONTROLLERS, Model, control_word, number, words};
+use crate::model::{CONTROLLERS, LAST_GROUP, Model, control_word, number, words};
 
 /// The line with every word changed, spaces and the final newline as they were.
 pub(super) fn with_words(line: &[u8], change: impl Fn(&[u8]) -> Vec<u8>) -> Vec<u8> {
@@ -133,7 +133,7 @@ pub(super) fn second_word_ignored(_: &Model, call: &mut Call) {
 
 pub(super) fn dead_is_root(model: &Model, call: &mut Call) {
     if let Call::WriteProcs { group, .. } = call
-        && *group <= 63
+        && *group <= LAST_GROUP
         && model.group(*group).is_none()
     {
         *group = 0;

@@ -5,7 +5,7 @@ use crate::call::Call;
 use crate::calls::{Calls, NO_GROUP};
 use crate::checks::{fork, release, write_procs};
 use crate::model::{
-    CPU, DEFAULTS, EMPTY, Limit, MEMORY, Model, Process, control_word, number, words,
+    CPU, DEEPEST, DEFAULTS, EMPTY, Limit, MEMORY, Model, Process, control_word, number, words,
 };
 
 /// The process that a line of cgroup.procs names, as it was before the call.
@@ -46,7 +46,7 @@ pub(super) fn limit_stops_move(done: &mut Outcome) {
 
 /// A move that asks another group than the lowest one on both chains, which are given from the
 /// process's group and from the target up.
-fn another_is_asked(done: &mut Outcome, asked: fn(&[u64], &[u64]) -> u64) {
+pub(super) fn another_is_asked(done: &mut Outcome, asked: fn(&[u64], &[u64]) -> u64) {
     let Call::WriteProcs { user, group, line } = done.call else { return };
     let Some(moved) = moved(done.before, line) else { return };
     let chains = [moved.group, *group].map(|group| done.before.chain(group));
@@ -108,7 +108,14 @@ pub(super) fn nine_children_reset(done: &mut Outcome) {
     }
 }
 
-fn keep_settings(done: &mut Outcome, child: u64) {
+/// As many as a chain has groups.
+pub(super) fn seventeen_children_reset(done: &mut Outcome) {
+    for child in children(done).into_iter().skip(DEEPEST + 1) {
+        keep_settings(done, child);
+    }
+}
+
+pub(super) fn keep_settings(done: &mut Outcome, child: u64) {
     if let Some(before) = done.before.group(child) {
         done.after.group_mut(child).settings = before.settings.clone();
     }
@@ -201,7 +208,7 @@ pub(super) fn half_charged(done: &mut Outcome) {
 
 /// Grants a charge that was refused for want of room, where there is room by another idea of what
 /// is used.
-fn charge_by(done: &mut Outcome, usage: impl Fn(&Model, u64) -> u64) {
+pub(super) fn charge_by(done: &mut Outcome, usage: impl Fn(&Model, u64) -> u64) {
     let Some((group, pages)) = charged(done) else { return };
     if *done.number != 12 {
         return;
@@ -228,29 +235,29 @@ pub(super) fn compared_in_36_bits(done: &mut Outcome) {
     charge_by(done, |model, group| model.usage(group) % (1 << 24));
 }
 
-/// The groups at depth 8 below a group.
-fn at_depth_8(model: &Model, group: u64) -> impl Iterator<Item = u64> {
+/// The groups at the deepest level below a group.
+fn deepest_below(model: &Model, group: u64) -> impl Iterator<Item = u64> {
     let is_below = move |&other: &u64| {
         let chain = model.chain(other);
-        chain.len() == 9 && chain[1..].contains(&group)
+        chain.len() == DEEPEST + 1 && chain[1..].contains(&group)
     };
     model.live_groups().filter(is_below)
 }
 
-/// The usage of a group by a sum that stops at depth 7.
+/// The usage of a group by a sum that stops one level above the deepest.
 fn shallow_usage(model: &Model, group: u64) -> u64 {
     let own = |deep| model.group(deep).map_or(0, |kept| kept.own_pages);
-    model.usage(group) - at_depth_8(model, group).map(own).sum::<u64>()
+    model.usage(group) - deepest_below(model, group).map(own).sum::<u64>()
 }
 
-pub(super) fn memory_max_of_seven(done: &mut Outcome) {
+pub(super) fn memory_max_without_deepest(done: &mut Outcome) {
     charge_by(done, |model, group| match group {
         0 => model.usage(0),
         _ => shallow_usage(model, group),
     });
 }
 
-pub(super) fn machine_of_seven(done: &mut Outcome) {
+pub(super) fn machine_without_deepest(done: &mut Outcome) {
     charge_by(done, |model, group| match group {
         0 => shallow_usage(model, 0),
         _ => model.usage(group),
@@ -284,7 +291,7 @@ pub(super) fn release_not_live_22(done: &mut Outcome) {
 
 /// Grants a fork that was refused for want of room, where there is room by another idea of how many
 /// processes there are.
-fn fork_by(done: &mut Outcome, population: impl Fn(&Model, u64) -> u64) {
+pub(super) fn fork_by(done: &mut Outcome, population: impl Fn(&Model, u64) -> u64) {
     let Call::Fork { parent, process } = done.call else { return };
     if done.refused_by() != Some(fork::PIDS_LIMIT) {
         return;
@@ -312,9 +319,17 @@ pub(super) fn population_in_8_bits(done: &mut Outcome) {
     });
 }
 
-pub(super) fn pids_max_of_seven(done: &mut Outcome) {
+/// A 1,024th process makes none.
+pub(super) fn population_in_10_bits(done: &mut Outcome) {
+    fork_by(done, |model, group| match model.population(group) {
+        1023 => 0,
+        population => population,
+    });
+}
+
+pub(super) fn pids_max_without_deepest(done: &mut Outcome) {
     fork_by(done, |model, group| {
-        let deep: usize = at_depth_8(model, group).map(|deep| model.holds(deep).count()).sum();
+        let deep: usize = deepest_below(model, group).map(|deep| model.holds(deep).count()).sum();
         model.population(group) - deep as u64
     });
 }

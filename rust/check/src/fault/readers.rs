@@ -2,10 +2,12 @@
 
 use super::Reading;
 use crate::call::Call;
+use crate::compare::ROOM;
+use crate::model::DEEPEST;
 
 impl Reading<'_> {
     /// The text that was put into the buffer.
-    fn text(&self) -> Option<&str> {
+    pub(super) fn text(&self) -> Option<&str> {
         if self.number != 0 {
             return None;
         }
@@ -37,7 +39,7 @@ pub(super) fn byte_after_text(reading: &mut Reading) -> u32 {
 
 pub(super) fn short_buffer_written(reading: &mut Reading) -> u32 {
     if reading.number == 28 {
-        let mut whole = [0; 1024];
+        let mut whole = [0; ROOM];
         reading.call.ask(reading.model, &mut [0; 2], &mut whole);
         reading.reply.copy_from_slice(&whole[..reading.reply.len()]);
     }
@@ -76,10 +78,10 @@ pub(super) fn usage_in_44_bits(reading: &mut Reading) -> u32 {
     usage_modulo(reading, 1 << 44)
 }
 
-pub(super) fn depth_8_cut_short(reading: &mut Reading) -> u32 {
+pub(super) fn deepest_cut_short(reading: &mut Reading) -> u32 {
     if let Call::Membership { .. } = reading.call
         && let Some(text) = reading.text()
-        && text.matches('/').count() == 8
+        && text.matches('/').count() == DEEPEST
         && let Some((above, _)) = text.rsplit_once('/')
     {
         let shorter = format!("{above}\n");

@@ -1,7 +1,7 @@
 //! The faults, one after the other.
 
 use super::Slip::{Instead, Outcome, Reader, Swapped};
-use super::{Fault, devices, instead, outcomes, readers};
+use super::{Fault, devices, instead, outcomes, readers, sizes};
 use crate::checks::{
     charge, fork, make, release, remove, write_procs, write_setting, write_subtree_control,
 };
@@ -78,6 +78,7 @@ pub(super) const FAULTS: &[Fault] = &[
     fault("charge compares usage modulo 2^36 bytes", Outcome(outcomes::compared_in_36_bits)),
     fault("own pages are kept in 22 bits", Outcome(outcomes::own_pages_in_22_bits)),
     fault("fork counts processes in 8 bits", Outcome(outcomes::population_in_8_bits)),
+    fault("fork counts processes in 10 bits", Outcome(outcomes::population_in_10_bits)),
     fault("the root's own pages are kept in 22 bits", Outcome(outcomes::root_pages_in_22_bits)),
     fault(
         "own pages are kept in 22 bits where memory is on nowhere up the chain",
@@ -128,6 +129,10 @@ pub(super) const FAULTS: &[Fault] = &[
         Outcome(outcomes::nine_children_reset),
     ),
     fault(
+        "a controller that leaves resets the first seventeen children only",
+        Outcome(outcomes::seventeen_children_reset),
+    ),
+    fault(
         "a group made again has the settings of the removed one",
         Outcome(outcomes::settings_outlive),
     ),
@@ -138,17 +143,23 @@ pub(super) const FAULTS: &[Fault] = &[
         "a move to the root makes the process user 0's",
         Outcome(outcomes::root_takes_for_user_0),
     ),
-    fault("memory.max further up ignores pages at depth 8", Outcome(outcomes::memory_max_of_seven)),
-    fault("pids.max further up ignores processes at depth 8", Outcome(outcomes::pids_max_of_seven)),
-    fault("the machine size ignores pages at depth 8", Outcome(outcomes::machine_of_seven)),
+    fault(
+        "memory.max further up ignores pages at depth 16",
+        Outcome(outcomes::memory_max_without_deepest),
+    ),
+    fault(
+        "pids.max further up ignores processes at depth 16",
+        Outcome(outcomes::pids_max_without_deepest),
+    ),
+    fault("the machine size ignores pages at depth 16", Outcome(outcomes::machine_without_deepest)),
     fault(
         "a \"+\" that a later \"-\" takes back counts as joining",
         Outcome(outcomes::taken_back_joins),
     ),
     // Readers.
     fault(
-        "the membership line of depth 8 loses its last number",
-        Reader(readers::depth_8_cut_short),
+        "the membership line of depth 16 loses its last number",
+        Reader(readers::deepest_cut_short),
     ),
     fault("a buffer of exactly the length is too short", Reader(readers::exact_is_short)),
     // Devices.
@@ -179,6 +190,76 @@ pub(super) const FAULTS: &[Fault] = &[
     fault("a value of io.max wraps at 64 bits", Instead(devices::value_wraps)),
     fault("\"-io\" is a bad word", Instead(devices::minus_io_refused)),
     fault("the question takes \"+io\" for a bad word", Instead(devices::plus_io_bad)),
+    // Numbers in too few bits.
+    fault("groups are numbered in 8 bits", Instead(sizes::groups_in_8_bits)),
+    fault("processes are numbered in 8 bits", Instead(sizes::processes_in_8_bits)),
+    fault("processes are numbered in 10 bits", Instead(sizes::processes_in_10_bits)),
+    fault("a line of cgroup.procs is read in 10 bits", Instead(sizes::line_in_10_bits)),
+    fault("pids.current is shown in 8 bits", Reader(sizes::population_shown_in_8_bits)),
+    fault("pids.current is shown in 10 bits", Reader(sizes::population_shown_in_10_bits)),
+    // The sizes of document 01 left in one place, as they were before order 4.
+    fault("make ends at parent 63", Instead(sizes::make_from_63)),
+    fault("make ends at group 63", Instead(sizes::make_to_63)),
+    fault("remove ends at group 63", Instead(sizes::remove_to_63)),
+    fault("hand over ends at group 63", Instead(sizes::hand_over_to_63)),
+    fault("a move ends at group 63", Instead(sizes::procs_to_63)),
+    fault("a control line ends at group 63", Instead(sizes::control_to_63)),
+    fault("a setting ends at group 63", Instead(sizes::setting_to_63)),
+    fault("release ends at group 63", Instead(sizes::release_to_63)),
+    fault("a read ends at group 63", Instead(sizes::read_to_63)),
+    fault("admit ends at process 256", Instead(sizes::admit_to_256)),
+    fault("fork ends at parent 256", Instead(sizes::fork_from_256)),
+    fault("fork ends at process 256", Instead(sizes::fork_to_256)),
+    fault("exit ends at process 256", Instead(sizes::exit_to_256)),
+    fault("charge ends at process 256", Instead(sizes::charge_to_256)),
+    fault("a move ends at process 256", Instead(sizes::line_to_256)),
+    fault("a membership line ends at process 256", Instead(sizes::membership_to_256)),
+    fault("nothing is made under depth 8", Outcome(sizes::depth_8_is_last)),
+    fault("a group is made under depth 16", Outcome(sizes::no_last_depth)),
+    fault("a charge asks the nine lowest groups only", Outcome(sizes::charge_of_nine)),
+    fault("a fork asks the nine lowest groups only", Outcome(sizes::fork_of_nine)),
+    fault("no more than nine groups are counted as consulted", Outcome(sizes::nine_consulted)),
+    fault(
+        "the common ancestor is sought in the nine lowest groups only",
+        Outcome(sizes::met_within_nine),
+    ),
+    fault(
+        "memory.max ignores pages more than eight levels below",
+        Outcome(sizes::memory_max_of_eight_levels),
+    ),
+    fault(
+        "pids.max ignores processes more than eight levels below",
+        Outcome(sizes::pids_max_of_eight_levels),
+    ),
+    fault(
+        "memory.current ignores pages more than eight levels below",
+        Reader(sizes::usage_of_eight_levels),
+    ),
+    fault(
+        "pids.current ignores processes more than eight levels below",
+        Reader(sizes::population_of_eight_levels),
+    ),
+    fault(
+        "cgroup.events ignores processes more than eight levels below",
+        Reader(sizes::events_of_eight_levels),
+    ),
+    fault("a controller that leaves resets children up to 63", Outcome(sizes::children_to_63)),
+    fault("a controller that leaves does not reset group 255", Outcome(sizes::last_child_kept)),
+    fault("remove sees children up to 63", Outcome(sizes::remove_sees_children_to_63)),
+    fault("remove sees processes up to 256", Outcome(sizes::remove_sees_processes_to_256)),
+    fault("a control line sees children up to 63", Outcome(sizes::control_sees_children_to_63)),
+    fault("a control line sees processes up to 256", Outcome(sizes::control_sees_processes_to_256)),
+    fault("cgroup.events sees processes up to 256", Reader(sizes::events_to_256)),
+    fault("cgroup.procs shows processes up to 256", Reader(sizes::listed_to_256)),
+    fault("cgroup.procs shows processes up to 1023", Reader(sizes::listed_to_1023)),
+    fault("cgroup.procs shows three digits of a number", Reader(sizes::listed_in_3_digits)),
+    fault("a text of more than 916 bytes is refused", Reader(sizes::texts_to_916)),
+    fault("a text of 4,013 bytes is refused", Reader(sizes::texts_to_4012)),
+    fault("a membership line shows two digits of a number", Reader(sizes::path_in_2_digits)),
+    fault("a membership line shows the eight lowest groups", Reader(sizes::path_of_lowest_eight)),
+    fault("a membership line shows the eight highest groups", Reader(sizes::path_of_highest_eight)),
+    fault("a membership line ends after 28 bytes", Reader(sizes::path_cut_at_28)),
+    fault("a membership line of 68 bytes is refused", Reader(sizes::lines_to_67)),
     // Two checks in the wrong order.
     fault(
         "remove asks for processes before the user",

@@ -2,26 +2,31 @@
 
 use super::Generator;
 use crate::call::Call;
-use crate::compare::FILES;
-use crate::model::{CPU, IO, MEMORY, Model, PIDS};
+use crate::compare::{FILES, ROOM};
+use crate::model::{CPU, IO, LAST_GROUP, LAST_PROCESS, MEMORY, Model, PIDS};
 
-/// Numbers at the edges of the ranges of groups and processes, and of the widths of machine words.
-const EDGES: [u64; 22] = [
+/// Numbers at the edges of the ranges of groups and processes, of the narrower ranges that document
+/// 01 had, and of the widths of machine words.
+const EDGES: [u64; 26] = [
     0,
     1,
     2,
-    8,
-    62,
     63,
     64,
-    65,
     127,
     128,
-    255,
-    256,
-    257,
-    258,
-    300,
+    LAST_GROUP - 1,
+    LAST_GROUP,
+    LAST_GROUP + 1,
+    LAST_GROUP + 2,
+    511,
+    512,
+    LAST_PROCESS - 1,
+    LAST_PROCESS,
+    LAST_PROCESS + 1,
+    LAST_PROCESS + 2,
+    2_048,
+    1 << 16,
     (1 << 32) - 1,
     1 << 32,
     (1 << 32) + 1,
@@ -48,7 +53,17 @@ pub(super) const PAGE_EDGES: [u64; 13] = [
 ];
 
 /// Distances at which a careless index or a narrow word would take one number for another.
-const ALIASES: [u64; 6] = [64, 256, 257, 1 << 32, 1 << 40, 1 << 63];
+const ALIASES: [u64; 9] = [
+    64,
+    LAST_GROUP + 1,
+    LAST_GROUP + 2,
+    512,
+    LAST_PROCESS,
+    LAST_PROCESS + 1,
+    1 << 32,
+    1 << 40,
+    1 << 63,
+];
 
 /// The settings that take figures.
 pub(super) const FIGURES: [&[u8]; 4] = [b"cpu.weight", b"cpu.max", b"memory.max", b"pids.max"];
@@ -237,7 +252,7 @@ impl Generator {
         let answer = question.on(&mut model.clone(), 0);
         let length = if answer.number == 0 { answer.told[0] as usize } else { 0 };
         let short = length.saturating_sub(1);
-        let chosen = self.random.pick(&[0, 1, short, short, length, length, length + 1, 64, 1024]);
+        let chosen = self.random.pick(&[0, 1, short, short, length, length, length + 1, 64, ROOM]);
         if let Call::Read { room, .. } | Call::Membership { room, .. } = &mut question {
             *room = chosen;
         }

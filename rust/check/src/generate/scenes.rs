@@ -3,7 +3,7 @@
 
 use super::Generator;
 use crate::call::Call;
-use crate::model::{CONTROLLERS, EMPTY, Model};
+use crate::model::{CONTROLLERS, EMPTY, LAST_GROUP, LAST_PROCESS, Model};
 
 mod absent;
 mod bounds;
@@ -63,13 +63,23 @@ const IN_TURN: [Scene; 19] = [
     Generator::long_lines,
 ];
 
+/// Whether the list of a seed begins with every process live. Few do: they are long.
+pub(super) fn has_full_house(seed: u64) -> bool {
+    seed % 50 == 49
+}
+
+/// As many calls as the house takes.
+pub(super) const FULL_HOUSE: usize = LAST_PROCESS as usize + 30;
+
 impl Generator {
-    /// The first scene of a list. One seed of twenty takes most of its calls for one; not the
-    /// first, for a fault that shows there is long to tell.
+    /// The first scene of a list. One seed of twenty takes most of its calls for a house of a byte's
+    /// worth of processes; not the first, for a fault that shows there is long to tell.
     pub(super) fn opening(&mut self, seed: u64, model: &Model) {
         let mut sketch = model.clone();
-        if seed % 20 == 19 {
-            self.full_house(&mut sketch);
+        if has_full_house(seed) {
+            self.house(&mut sketch, LAST_PROCESS);
+        } else if seed % 20 == 19 {
+            self.house(&mut sketch, 256);
         } else if self.random.percent(80) {
             let words = self.random.pick(&[ALL, "+io +memory +pids", "+memory", "+pids"]);
             self.control(&mut sketch, 0, words);
@@ -140,11 +150,12 @@ impl Generator {
     }
 
     pub(super) fn free_group(&mut self, sketch: &Model) -> Option<u64> {
-        self.random.one_of((1..=63).filter(|&group| sketch.group(group).is_none()))
+        self.random.one_of((1..=LAST_GROUP).filter(|&group| sketch.group(group).is_none()))
     }
 
     pub(super) fn free_process(&mut self, sketch: &Model) -> Option<u64> {
-        self.random.one_of((1..=256).filter(|&process| sketch.process(process).is_none()))
+        let free = |&process: &u64| sketch.process(process).is_none();
+        self.random.one_of((1..=LAST_PROCESS).filter(free))
     }
 
     pub(super) fn live_group(&mut self, sketch: &Model) -> u64 {

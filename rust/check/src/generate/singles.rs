@@ -4,7 +4,7 @@ use super::Generator;
 use super::arguments::PAGE_EDGES;
 use super::taste::Kind;
 use crate::call::Call;
-use crate::compare::FILES;
+use crate::compare::{FILES, ROOM};
 use crate::model::Model;
 
 impl Generator {
@@ -84,11 +84,11 @@ impl Generator {
                     1..6 => b"cgroup.procs".to_vec(),
                     _ => self.random.pick(&FILES).to_vec(),
                 };
-                let question = Call::Read { group, file, room: 4096 };
+                let question = Call::Read { group, file, room: ROOM };
                 self.with_room(model, question)
             }
             Kind::Membership => {
-                let question = Call::Membership { process: self.process(model), room: 4096 };
+                let question = Call::Membership { process: self.process(model), room: ROOM };
                 self.with_room(model, question)
             }
             Kind::FirstBadWord => {

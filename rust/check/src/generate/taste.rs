@@ -1,5 +1,6 @@
 //! What a seed favours.
 
+use crate::model::{LAST_GROUP, LAST_PROCESS};
 use crate::random::Random;
 
 const MACHINES: [u64; 18] = [
@@ -79,19 +80,19 @@ const KINDS: [(Kind, u64); 14] = [
 impl Taste {
     pub fn of(random: &mut Random) -> Taste {
         let some_users = random.within(1, 4) as usize;
-        let some_groups = random.pick(&[3, 8, 20, 63]);
-        let some_processes = random.pick(&[2, 6, 40, 256]);
+        let some_groups = random.pick(&[3, 8, 20, LAST_GROUP]);
+        let some_processes = random.pick(&[2, 6, 40, LAST_PROCESS]);
         Taste {
             machine: random.pick(&MACHINES),
             users: [1, 1000, u32::MAX, 2][..some_users].to_vec(),
-            groups: some_of(random, 63, some_groups),
-            processes: some_of(random, 256, some_processes),
+            groups: some_of(random, LAST_GROUP, some_groups),
+            processes: some_of(random, LAST_PROCESS, some_processes),
             edges: random.pick(&[1, 4, 15]),
             lawful: random.pick(&[50, 80, 95]),
             deep: random.pick(&[5, 40, 80]),
             odd_lines: random.pick(&[5, 20, 50]),
             absent: random.pick(&[1, 3, 8]),
-            scenes: random.pick(&[6, 12, 20]),
+            scenes: random.pick(&[10, 16, 24]),
             steady: random.pick(&[90, 97, 100]),
             weights: KINDS.map(|(kind, weight)| (kind, weight * favour(random, kind))).into(),
         }
@@ -107,12 +108,12 @@ fn favour(random: &mut Random, kind: Kind) -> u64 {
 }
 
 /// So many numbers from 1 to `last`, the ends of the range among them.
-fn some_of(random: &mut Random, last: u64, count: usize) -> Vec<u64> {
+fn some_of(random: &mut Random, last: u64, count: u64) -> Vec<u64> {
     let mut numbers: Vec<u64> = (1..=last).collect();
     for place in (1..numbers.len()).rev() {
         numbers.swap(place, random.below(place as u64 + 1) as usize);
     }
-    numbers.truncate(count);
+    numbers.truncate(count as usize);
     numbers[0] = last;
     if !numbers.contains(&1) {
         numbers[1] = 1;

@@ -16,7 +16,7 @@ impl Model {
         let has_set = self.group(group).is_some_and(|g| g.set != EMPTY);
         let is_above = number.is_some_and(|number| number > u128::from(LAST_PROCESS));
         [
-            (group > LAST_GROUP, write_procs::ABOVE_63),
+            (group > LAST_GROUP, write_procs::ABOVE_LAST),
             (self.group(group).is_none(), write_procs::NOT_LIVE),
             (!self.may_write(user, group), write_procs::MAY_NOT_WRITE),
             (line.len() > LONGEST_LINE, write_procs::LONG_LINE),
@@ -24,7 +24,7 @@ impl Model {
             (words > 1, write_procs::MORE_WORDS),
             (words == 1 && number.is_none(), write_procs::NOT_A_NUMBER),
             (number == Some(0), write_procs::IS_0),
-            (is_above, write_procs::ABOVE_256),
+            (is_above, write_procs::PROCESS_ABOVE_LAST),
             (number.is_some() && !is_above && process.is_none(), write_procs::PROCESS_NOT_LIVE),
             (user != 0 && process.is_none_or(|p| p.user != user), write_procs::NOT_ITS_USER),
             (
@@ -37,8 +37,8 @@ impl Model {
 
     pub(super) fn try_write_procs(&mut self, user: u32, group: u64, line: &[u8]) -> Verdict {
         decide(&self.write_procs_checks(user, group, line))?;
-        let process = one_number(line).expect("checked") as usize;
-        self.processes[process].as_mut().expect("checked").group = group;
+        let process = one_number(line).expect("checked") as u64;
+        self.processes.get_mut(&process).expect("checked").group = group;
         Ok(())
     }
 }
@@ -70,7 +70,7 @@ impl Model {
         };
         let holds_process = group != ROOT && self.holds(group).next().is_some();
         [
-            (group > LAST_GROUP, write_subtree_control::ABOVE_63),
+            (group > LAST_GROUP, write_subtree_control::ABOVE_LAST),
             (self.group(group).is_none(), write_subtree_control::NOT_LIVE),
             (!self.may_write(user, group), write_subtree_control::MAY_NOT_WRITE),
             (line.len() > LONGEST_LINE, write_subtree_control::LONG_LINE),
@@ -201,7 +201,7 @@ impl Model {
             |test: &dyn Fn(&DeviceLine) -> bool| device_line.as_ref().is_some_and(test);
         let has_fifth = |line: &DeviceLine| self.group(group).is_some_and(|g| line.is_fifth_of(g));
         [
-            (group > LAST_GROUP, write_setting::ABOVE_63),
+            (group > LAST_GROUP, write_setting::ABOVE_LAST),
             (self.group(group).is_none(), write_setting::NOT_LIVE),
             (controller.is_none(), write_setting::NOT_A_SETTING),
             (controller.is_some_and(|k| self.is_off(k, group)), write_setting::NOT_ON),

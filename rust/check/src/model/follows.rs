@@ -5,10 +5,9 @@ use super::*;
 impl Model {
     pub fn new(machine: u64) -> Model {
         let root = Group { parent: ROOT, owner: 0, set: EMPTY, own_pages: 0, settings: DEFAULTS };
-        let mut groups = [const { None }; LAST_GROUP as usize + 1];
-        groups[ROOT as usize] = Some(root);
-        let processes = [None; LAST_PROCESS as usize + 1];
-        Model { machine: machine.min(LARGEST_MACHINE), groups, processes }
+        let mut groups = vec![None; LAST_GROUP as usize + 1];
+        groups[ROOT as usize] = Some(Box::new(root));
+        Model { machine: machine.min(LARGEST_MACHINE), groups, processes: BTreeMap::new() }
     }
 
     pub fn machine(&self) -> u64 {
@@ -17,7 +16,7 @@ impl Model {
 
     /// The group with this number, if it is live.
     pub fn group(&self, group: u64) -> Option<&Group> {
-        self.groups.get(usize::try_from(group).ok()?)?.as_ref()
+        self.groups.get(usize::try_from(group).ok()?)?.as_deref()
     }
 
     pub(crate) fn group_mut(&mut self, group: u64) -> &mut Group {
@@ -26,7 +25,7 @@ impl Model {
 
     /// The process with this number, if it is live.
     pub fn process(&self, process: u64) -> Option<&Process> {
-        self.processes.get(usize::try_from(process).ok()?)?.as_ref()
+        self.processes.get(&process)
     }
 
     /// Whether the number is in range and the process is free.
@@ -39,7 +38,7 @@ impl Model {
     }
 
     pub fn live_processes(&self) -> impl Iterator<Item = u64> {
-        (1..=LAST_PROCESS).filter(|&process| self.process(process).is_some())
+        self.processes.keys().copied()
     }
 
     pub fn children(&self, group: u64) -> impl Iterator<Item = u64> {
@@ -48,8 +47,8 @@ impl Model {
 
     /// The live processes of the group itself, ascending.
     pub fn holds(&self, group: u64) -> impl Iterator<Item = u64> {
-        self.live_processes()
-            .filter(move |&process| self.process(process).is_some_and(|p| p.group == group))
+        let held = self.processes.iter().filter(move |(_, process)| process.group == group);
+        held.map(|(number, _)| *number)
     }
 
     /// The parent of a live group; the root has none.
@@ -78,10 +77,14 @@ impl Model {
         inside.map(|inner| self.group(inner).map_or(0, |g| g.own_pages)).sum()
     }
 
-    /// The number of live processes inside the group.
+    /// The number of live processes inside the group. They are counted by the groups that they stand
+    /// in, so that each of these is looked for once.
     pub fn population(&self, group: u64) -> u64 {
-        let all = self.processes.iter().flatten();
-        all.filter(|process| self.is_inside(process.group, group)).count() as u64
+        let mut held: BTreeMap<u64, u64> = BTreeMap::new();
+        for process in self.processes.values() {
+            *held.entry(process.group).or_default() += 1;
+        }
+        held.into_iter().filter(|(inner, _)| self.is_inside(*inner, group)).map(|(_, n)| n).sum()
     }
 
     /// Whether a controller is on: the group is not the root, and its parent has it in its set.
@@ -109,7 +112,7 @@ impl Model {
     }
 
     /// The lowest group that is on both chains.
-    pub(super) fn lowest_on_both(&self, source: u64, target: u64) -> Option<u64> {
+    pub(crate) fn lowest_on_both(&self, source: u64, target: u64) -> Option<u64> {
         let target = self.chain(target);
         self.chain(source).into_iter().find(|group| target.contains(group))
     }

@@ -6,26 +6,26 @@ use crate::checks::{hand_over, make, remove};
 impl Model {
     pub(super) fn make_checks(&self, user: u32, parent: u64, new: u64) -> [Test; 6] {
         [
-            (parent > LAST_GROUP, make::PARENT_ABOVE_63),
-            (new > LAST_GROUP, make::NEW_ABOVE_63),
+            (parent > LAST_GROUP, make::PARENT_ABOVE_LAST),
+            (new > LAST_GROUP, make::NEW_ABOVE_LAST),
             (self.group(parent).is_none(), make::PARENT_NOT_LIVE),
             (self.group(new).is_some(), make::NEW_IS_LIVE),
             (!self.may_write(user, parent), make::MAY_NOT_WRITE_PARENT),
-            (self.depth(parent) == DEEPEST, make::PARENT_AT_DEPTH_8),
+            (self.depth(parent) == DEEPEST, make::PARENT_DEEPEST),
         ]
     }
 
     pub(super) fn try_make(&mut self, user: u32, parent: u64, new: u64) -> Verdict {
         decide(&self.make_checks(user, parent, new))?;
         let group = Group { parent, owner: user, set: EMPTY, own_pages: 0, settings: DEFAULTS };
-        self.groups[new as usize] = Some(group);
+        self.groups[new as usize] = Some(Box::new(group));
         Ok(())
     }
 
     pub(super) fn remove_checks(&self, user: u32, group: u64) -> [Test; 7] {
         let is_root = group == ROOT;
         [
-            (group > LAST_GROUP, remove::ABOVE_63),
+            (group > LAST_GROUP, remove::ABOVE_LAST),
             (self.group(group).is_none(), remove::NOT_LIVE),
             (!is_root && !self.may_write_parent(user, group), remove::MAY_NOT_WRITE_PARENT),
             (is_root && user != 0, remove::ROOT_NOT_USER_0),
@@ -45,7 +45,7 @@ impl Model {
     pub(super) fn hand_over_checks(&self, user: u32, group: u64) -> [Test; 4] {
         [
             (group == ROOT, hand_over::IS_ROOT),
-            (group > LAST_GROUP, hand_over::ABOVE_63),
+            (group > LAST_GROUP, hand_over::ABOVE_LAST),
             (self.group(group).is_none(), hand_over::NOT_LIVE),
             (user != 0, hand_over::NOT_USER_0),
         ]

@@ -39,14 +39,14 @@ impl Model {
     pub(super) fn admit_checks(&self, process: u64) -> [Test; 3] {
         [
             (process == 0, admit::IS_0),
-            (process > LAST_PROCESS, admit::ABOVE_256),
+            (process > LAST_PROCESS, admit::ABOVE_LAST),
             (self.process(process).is_some(), admit::IS_LIVE),
         ]
     }
 
     pub(super) fn try_admit(&mut self, process: u64, user: u32) -> Verdict {
         decide(&self.admit_checks(process))?;
-        self.processes[process as usize] = Some(Process { user, group: ROOT });
+        self.processes.insert(process, Process { user, group: ROOT });
         Ok(())
     }
 
@@ -62,7 +62,7 @@ impl Model {
             (is_outside(parent), fork::PARENT_OUTSIDE),
             (self.is_free(parent), fork::PARENT_NOT_LIVE),
             (new == 0, fork::NEW_IS_0),
-            (new > LAST_PROCESS, fork::NEW_ABOVE_256),
+            (new > LAST_PROCESS, fork::NEW_ABOVE_LAST),
             (self.process(new).is_some(), fork::NEW_IS_LIVE),
             (asked.full.is_some(), fork::PIDS_LIMIT),
         ]
@@ -73,7 +73,8 @@ impl Model {
         let verdict = decide(&self.fork_checks(parent, new, &asked));
         *told = asked.told(verdict, 11);
         verdict?;
-        self.processes[new as usize] = self.process(parent).copied();
+        let process = *self.process(parent).expect("checked");
+        self.processes.insert(new, process);
         Ok(())
     }
 
@@ -83,7 +84,7 @@ impl Model {
 
     pub(super) fn try_exit(&mut self, process: u64) -> Verdict {
         decide(&self.exit_checks(process))?;
-        self.processes[process as usize] = None;
+        self.processes.remove(&process);
         Ok(())
     }
 }
@@ -124,7 +125,7 @@ impl Model {
     pub(super) fn release_checks(&self, group: u64, pages: u64) -> [Test; 5] {
         let own = self.group(group).map_or(0, |g| g.own_pages);
         [
-            (group > LAST_GROUP, release::ABOVE_63),
+            (group > LAST_GROUP, release::ABOVE_LAST),
             (pages == 0, release::NO_PAGES),
             (pages > MOST_PAGES, release::TOO_MANY_PAGES),
             (self.group(group).is_none(), release::NOT_LIVE),

@@ -63,7 +63,7 @@ impl Model {
     fn file_checks(&self, group: u64, file: &[u8]) -> [Test; 5] {
         let there = there(file);
         [
-            (group > LAST_GROUP, read::ABOVE_63),
+            (group > LAST_GROUP, read::ABOVE_LAST),
             (self.group(group).is_none(), read::NOT_LIVE),
             (matches!(there, There::Nowhere), read::NO_SUCH_FILE),
             (matches!(there, There::BelowTheRoot) && group == ROOT, read::EVENTS_ON_ROOT),

@@ -7,6 +7,7 @@
 pub mod rows;
 
 use shootspiral_check::Calls;
+use shootspiral_check::compare::ROOM;
 
 /// A test of this name for the model, and one for the proved host.
 macro_rules! both {
@@ -28,11 +29,11 @@ macro_rules! both {
 
 /// The text of a file, or the number that the reader gets and nothing else.
 pub fn read<H: Calls>(host: &H, group: u64, file: &str) -> Result<String, u32> {
-    let (mut reply, mut told) = ([b'.'; 1000], [77]);
+    let (mut reply, mut told) = ([b'.'; ROOM], [77]);
     match host.read(group, file.as_bytes(), &mut reply, &mut told) {
         0 => Ok(String::from_utf8(reply[..told[0] as usize].to_vec()).unwrap()),
         number => {
-            assert_eq!((told, reply), ([0], [b'.'; 1000]));
+            assert_eq!((told, reply), ([0], [b'.'; ROOM]));
             Err(number)
         }
     }

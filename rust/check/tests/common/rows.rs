@@ -61,6 +61,17 @@ pub fn long_five() -> String {
     format!("{:0>128}", 5)
 }
 
+/// A chain of as many groups as there can be: 240 at depth 1 to 255 at depth 16.
+pub fn descent() -> [Call; 16] {
+    std::array::from_fn(|place| match place as u64 {
+        0 => make(0, 0, 240),
+        depth => make(0, 239 + depth, 240 + depth),
+    })
+}
+
+/// The membership line there, the longest that there is.
+pub const DEEP_LINE: &str = "0::/240/241/242/243/244/245/246/247/248/249/250/251/252/253/254/255\n";
+
 /// What stands after a text in its buffer.
 const SENTINELS: [u8; 4] = [1, 2, 3, 4];
 

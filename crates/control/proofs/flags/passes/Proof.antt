@@ -6,7 +6,7 @@ use Rattle.lines.specs.Control.{askOf}
 use Rattle.tree.specs.Layout.{view}
 use Rattle.control.specs.Flags.{testAt}
 use Rattle.control.specs.declared.flags.Test.{Test}
-use Rattle.control.specs.declared.flags.Test.the-variants.{InSetAfter, Absent, Joining, Leaving, Held}
+use Rattle.control.specs.declared.flags.Test.the-variants.{InSetAfter, Absent, Joining, Leaving}
 use Rattle.control.proofs.flags.passes.Statement.{statement}
 use Rattle.control.proofs.flags.passes.Tie as tie
 
@@ -41,12 +41,6 @@ enum-told-4 c = search needs
 is-leaving-requires : tie.Need-is-leaving-requires
 is-leaving-requires c κs = search needs
 
-enum-told-5 : tie.Need-enum-told-5
-enum-told-5 c = search needs
-
-is-held-requires : tie.Need-is-held-requires
-is-held-requires c κs = search needs
-
 returns : tie.Need-returns
 returns c = named (c .before .before .before) InSetAfter (c .before .enum-told .given .1) _ (c .is-set-after .ensures)
 
@@ -58,9 +52,6 @@ returns-3 c = named (c .before .before .before) Joining (c .before .enum-told3 .
 
 returns-4 : tie.Need-returns-4
 returns-4 c = named (c .before .before .before) Leaving (c .before .enum-told4 .given .1) _ (c .is-leaving .ensures)
-
-returns-5 : tie.Need-returns-5
-returns-5 c = named (c .before .before .before) Held (c .before .enum-told5 .given .1) _ (c .is-held .ensures)
 
 pub passes-spec : {M : Type 1} → statement M
 passes-spec =
@@ -74,10 +65,7 @@ passes-spec =
     is-joining-requires
     enum-told-4
     is-leaving-requires
-    enum-told-5
-    is-held-requires
     returns
     returns-2
     returns-3
-    returns-4
-    returns-5)
+    returns-4)

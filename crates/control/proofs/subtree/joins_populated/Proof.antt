@@ -7,9 +7,9 @@ use borrow.Author.Needs.{needs}
 use Rattle.model.specs.Control.{anyController}
 use Rattle.model.specs.Rules.{hasProcess}
 use Rattle.tree.specs.Layout.{view}
-use Rattle.tree.proofs.TestLaws.{holds-not, holds-then}
+use Rattle.tree.proofs.KeptLaws.{live-row}
 use Rattle.control.specs.Flags.{asksOf, joinsAt}
-use Rattle.control.proofs.FlagLaws.{any-wished, last-not, last-holds}
+use Rattle.control.proofs.FlagLaws.{any-wished, last-not, last-holds, holds-not, holds-then}
 use Rattle.control.proofs.subtree.joins_populated.Statement.{statement}
 use Rattle.control.proofs.subtree.joins_populated.Tie as tie
 
@@ -27,7 +27,7 @@ returns : tie.Need-returns
 returns c = holds-not _ _ (ap not (eq-eqb _ 0 (c .if1 .taken)))
 
 for-each-requires : tie.Need-for-each-requires
-for-each-requires c κs = search needs
+for-each-requires c κs = let k = c .before .before .pre in live-row _ (k .kept) _ (k .live)
 
 is-any-requires : tie.Need-is-any-requires
 is-any-requires c κs = search needs

@@ -2,7 +2,7 @@
 use Prim.Native.Nat.{ℕ}
 use mathlib.Core.Bool.{true}
 use mathlib.Core.List.{List}
-use mathlib.Core.Path.{_≡_, refl, sym, _∙_}
+use mathlib.Core.Path.{_≡_, refl, ap, sym, _∙_}
 use lib.ListN.{drop}
 use borrow.Author.Needs.{needs}
 use borrow.Author.Tests.{le-leb, lt-leb, not-true, not-false}
@@ -10,12 +10,13 @@ use Rattle.model.specs.Checks.{Check}
 use Rattle.model.specs.Tree.{Tree, lives}
 use Rattle.model.specs.Control.{asked, anyController}
 use Rattle.model.specs.Hierarchy.{factsOf}
+use Rattle.model.specs.Rules.{leaving}
 use Rattle.model.specs.Calls.{writeControl, checks, verdict}
 use Rattle.tree.specs.Layout.{view}
 use Rattle.tree.specs.Counters.{HasParent}
 use Rattle.tree.proofs.KeptLaws.{live-row}
-use Rattle.control.specs.Flags.{absentAt, heldAt, joinsPopulated}
-use Rattle.control.proofs.FlagLaws.{any-asked, joins-asked}
+use Rattle.control.specs.Flags.{absentAt, leavesAt, isAnyHeld, joinsPopulated}
+use Rattle.control.proofs.FlagLaws.{any-asked, flag-asked, joins-asked}
 use Rattle.control.proofs.VetLaws.{Passed, begun, not-barred, not-lacking, is-barred, is-lacking, is-done}
 use Rattle.control.proofs.subtree.vet_control.Statement.{statement}
 use Rattle.control.proofs.subtree.vet_control.Tie as tie
@@ -91,11 +92,13 @@ absent-found c =
     let a = c .before .before in
     any-asked _ _ (a .asks .ensures) (absentAt (tree-of a) (group-of a)) _ _ (c .before .for-each .ensures) (c .is-any .ensures)
 
-held-found : (c : tie.After-is-any2) → let a = asks-at (c .before .before) in
-    c .is-any2 .result ≡ anyController (λ k. heldAt (tree-of a) (group-of a) k (asked (line-of a) k))
+held-found : (c : tie.After-is-any-held) → let a = asks-at (c .before .before) in
+    c .is-any-held .result ≡ isAnyHeld (tree-of a) (group-of a) (leaving (tree-of a) (group-of a) (line-of a))
 held-found c =
     let a = asks-at (c .before .before) in
-    any-asked _ _ (a .asks .ensures) (heldAt (tree-of a) (group-of a)) _ _ (c .before .for-each2 .ensures) (c .is-any2 .ensures)
+    c .is-any-held .ensures
+    ∙ ap (isAnyHeld (tree-of a) (group-of a))
+    (flag-asked _ _ (a .asks .ensures) (leavesAt (tree-of a) (group-of a)) _ (c .before .for-each2 .ensures))
 
 join-found : (c : tie.After-joins-populated) → let a = asks-at (there-at (c .before)) in
     c .joins-populated .result ≡ joinsPopulated (tree-of a) (group-of a) (asked (line-of a))
@@ -169,8 +172,8 @@ returns-6 c = is-barred (good (c .before .before .before .before)) (absent-found
 for-each-requires-2 : tie.Need-for-each-requires-2
 for-each-requires-2 c κs = above (asks-at c .before)
 
-is-any-requires-2 : tie.Need-is-any-requires-2
-is-any-requires-2 c κs = search needs
+is-any-held-requires : tie.Need-is-any-held-requires
+is-any-held-requires c κs = search needs
 
 -- Ebusy: a controller that leaves is in a child's set
 returns-7 : tie.Need-returns-7
@@ -178,7 +181,9 @@ unfolding verdict checks
 returns-7 c = is-barred (there (c .before .before .before)) (held-found (c .before)) (c .if7 .taken)
 
 joins-populated-requires : tie.Need-joins-populated-requires
-joins-populated-requires c κs = above (asks-at (there-at c) .before)
+joins-populated-requires c κs =
+    let e = asks-at (there-at c) .before in
+    record { kept = begin e .pre; live = alive (live-at (may-at (short-at e))) }
 
 -- Ebusy: the inner-process rule
 returns-8 : tie.Need-returns-8
@@ -208,7 +213,7 @@ vet-control-spec =
     is-any-requires
     returns-6
     for-each-requires-2
-    is-any-requires-2
+    is-any-held-requires
     returns-7
     joins-populated-requires
     returns-8

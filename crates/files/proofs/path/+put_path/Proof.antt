@@ -11,7 +11,8 @@ use Rattle.text.proofs.write.put_byte.Reads as put-byte-reads
 use Rattle.text.proofs.write.put_number.Reads as put-number-reads
 use Rattle.tree.specs.Layout.{view}
 use Rattle.tree.proofs.group.parent.Reads as parent-reads
-use Rattle.files.proofs.PathLaws.{path-none, path-text, path-fits, path-above}
+use Rattle.model.proofs.LengthLaws.{path-none}
+use Rattle.files.proofs.PathLaws.{path-text, path-fits, path-above}
 use Rattle.files.proofs.path.+put_path.{statement}
 use Rattle.files.proofs.path.+put_path.Lts-put_path as lts
 use Rattle.files.proofs.path.put_path.Kinds as put-path-kinds

@@ -90,8 +90,16 @@ returns-4 c =
 enum-told : tie.Need-enum-told
 enum-told c = search needs
 
+-- the group is live
+kept : (j : tie.Else4) →
+    let a = j .before .before .before .before .before .before .before .before .before .before .before .args in
+    KeptAt (a .tree .now) (a .group .0)
+kept j =
+    let i = j .before .before .before .before .before in
+    record { kept = i .before .before .before .before .before .before .pre; live = live i }
+
 read-procs-requires : tie.Need-read-procs-requires
-read-procs-requires c κs = search needs
+read-procs-requires c κs = kept (c .before .before .before)
 
 same-length : tie.Need-same-length
 same-length c = search needs
@@ -109,14 +117,6 @@ delivered j d =
     let a = i .before .before .before .before .before .before .args in
     read-delivered (a .tree .now) (a .group .0) (a .file .now) (a .reply .now) (low (i .before)) (live i) _ (found f)
     (sym (h .is-present .ensures) ∙ not-false _ (j .if4 .left)) d
-
--- and its group is live
-kept : (j : tie.Else4) →
-    let a = j .before .before .before .before .before .before .before .before .before .before .before .args in
-    KeptAt (a .tree .now) (a .group .0)
-kept j =
-    let i = j .before .before .before .before .before in
-    record { kept = i .before .before .before .before .before .before .pre; live = live i }
 
 -- cgroup.procs
 returns-5 : tie.Need-returns-5

@@ -12,7 +12,7 @@ slice-aggregate-put-procs : tie.Need-slice-aggregate-put-procs
 slice-aggregate-put-procs c = search needs
 
 put-procs-requires : tie.Need-put-procs-requires
-put-procs-requires c κs = omega arith
+put-procs-requires c κs = (c .before .before .pre, omega arith)
 
 array-share-prefix-scratch : tie.Need-array-share-prefix-scratch
 array-share-prefix-scratch c =

@@ -3,6 +3,7 @@
 use borrow.Author.Tests.{not-false}
 use Rattle.model.specs.Calls.{checks, verdict}
 use Rattle.model.proofs.VetLaws.{tested, vets}
+use Rattle.tree.specs.Kept.{KeptAt}
 use Rattle.tree.proofs.KeptLaws.{parent-low}
 use borrow.Author.Needs.{needs}
 use Rattle.groups.proofs.remove.vet_remove.Statement.{statement}
@@ -39,26 +40,22 @@ returns-4 : tie.Need-returns-4
 unfolding verdict checks
 returns-4 c = search vets depth 12 fits 4000
 
+-- a live group
+live-at : (c : tie.After-parent) → let a = c .before .before .before .before .before .args in KeptAt (a .tree .now) (a .group .0)
+live-at c =
+    let l = c .before .before in
+    record { kept = l .before .before .before .pre; live = tested _ _ _ (l .is-live .ensures) (not-false _ (c .before .if2 .left)) }
+
 has-child-requires : tie.Need-has-child-requires
-has-child-requires c κs =
-    let p = c .before .before .before .before in
-    let l = p .before .before in
-    record { kept = l .before .before .before .pre; live = tested _ _ _ (l .is-live .ensures) (not-false _ (p .before .if2 .left)) }
+has-child-requires c κs = live-at (c .before .before .before .before)
 
 -- 16: a live child
 returns-5 : tie.Need-returns-5
 unfolding verdict checks
 returns-5 c = search vets depth 12 fits 4000
 
-is-populated-requires : tie.Need-is-populated-requires
-is-populated-requires c κs =
-    let h = c .before in
-    let w = h .before .before .before .before in
-    let p = w .before in
-    let l = p .before .before in (
-      record { kept = l .before .before .before .pre; live = tested _ _ _ (l .is-live .ensures) (not-false _ (p .before .if2 .left)) },
-      tested _ _ _ (h .has-child .ensures) (c .if5 .left),
-    )
+has-process-requires : tie.Need-has-process-requires
+has-process-requires c κs = live-at (c .before .before .before .before .before .before)
 
 -- 16: a live process
 returns-6 : tie.Need-returns-6
@@ -83,6 +80,6 @@ vet-remove-spec =
     returns-4
     has-child-requires
     returns-5
-    is-populated-requires
+    has-process-requires
     returns-6
     returns-7)

@@ -13,7 +13,7 @@ use Rattle.tree.specs.Changes.{Adjusted}
 use Rattle.tree.specs.declared.sum.Counter.the-variants.{Of}
 use Rattle.tree.proofs.RoomCallLaws.{RoomVetted, room-call-refused, room-call-home, room-call-chargeable, room-call-full, room-call-charged, room-call-accepted, room-call-granted}
 use Rattle.processes.specs.Place.{Vacant}
-use Rattle.processes.proofs.PlaceLaws.{enter-rows, entered}
+use Rattle.processes.proofs.PlaceLaws.{enter-countable, enter-rows, entered}
 use Rattle.processes.proofs.BirthLaws.{fork-call, fork-parent, fork-vetted, fork-vacant, forked}
 use Rattle.processes.proofs.birth.fork.Statement.{statement}
 use Rattle.processes.proofs.birth.fork.Tie as tie
@@ -115,15 +115,22 @@ vacant c =
     let d = done-at c in
     fork-vacant _ _ _ _ (passed d) (c .process-group .ensures) (room-call-home (fork-call _ (start (vet-at d) .pre) _ _) (vetted c))
 
+-- one member more
+adjust-requires : tie.Need-adjust-requires
+adjust-requires c κs =
+    let e = c .before .before in
+    enter-countable _ _ _ (vacant (group-at (user-at (chain-at (found-at e))))) _ (counted e) _ (omega arith)
+
 put-process-requires : tie.Need-put-process-requires
 put-process-requires c κs =
-    let e = c .before .before in
-    enter-rows _ _ _ (vacant (group-at (user-at (chain-at (found-at e))))) _ (counted e)
+    let m = c .before in
+    enter-rows _ _ _ (vacant (group-at (user-at (chain-at (found-at (m .before .before .before)))))) _ _ (m .adjust .ensures)
 
 -- granted
 returns-3 : tie.Need-returns-3
 returns-3 c =
-    let e = c .before .before .before in
+    let m = c .before .before in
+    let e = m .before .before .before in
     let f = found-at e in
     let h = chain-at f in
     let u = user-at h in
@@ -134,7 +141,7 @@ returns-3 c =
     room-call-granted o v (h .chain-of .ensures) (f .try-charge .ensures) _ (e .found .given .1) _
     (forked _ _ _ _ (passed d) (g .process-group .ensures) (start (vet-at d) .pre)
     (room-call-accepted o v (h .chain-of .ensures) (f .try-charge .ensures) _ (e .found .given .1)) _ (u .process-user .ensures) _
-    (entered _ _ _ (vacant g) _ _ _ (counted e) (c .put-process .ensures)))
+    (entered _ _ _ (vacant g) _ _ _ _ (counted e) (m .adjust .ensures) (c .put-process .ensures)))
 
 pub fork-spec : {M : Type 1} → statement M
 fork-spec =
@@ -151,5 +158,6 @@ fork-spec =
     enum-known-found
     enum-known-found-2
     returns-2
+    adjust-requires
     put-process-requires
     returns-3)

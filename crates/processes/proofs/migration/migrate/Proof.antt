@@ -1,5 +1,5 @@
 -- `processes::migration::migrate` meets its contract: below the lowest group on both chains the sums have one less along the one and
--- one more along the other, and then the place is stored. Assumes nothing.
+-- one more along the other, so have the members of the two groups, and then the place is stored. Assumes nothing.
 use Prim.Native.Nat.{_-_, _≤_}
 use native.Mathlib.Omega.{arith}
 use borrow.Author.Needs.{needs}
@@ -9,7 +9,7 @@ use Rattle.tree.specs.Counters.{bottom}
 use Rattle.tree.specs.declared.sum.Counter.the-variants.{Of}
 use Rattle.tree.proofs.AdjustLaws.{Rising}
 use Rattle.tree.proofs.AlongLaws.{AlongTo, along-to-start, along-to-more, along-to-countable, along-to-next, along-to-end}
-use Rattle.processes.proofs.PlaceLaws.{standing-low, leave-chain, leave-along, meeting-left, come-chain, come-meeting, come-along, move-rows, moved}
+use Rattle.processes.proofs.PlaceLaws.{standing-low, leave-chain, leave-along, meeting-left, come-chain, come-meeting, come-along, move-less, move-more, move-rows, moved}
 use Rattle.processes.proofs.migration.migrate.Statement.{statement}
 use Rattle.processes.proofs.migration.migrate.Tie as tie
 
@@ -20,10 +20,10 @@ abbrev μ-loop : tie.MeasureT-loop
 μ-loop tree₀ process lowest source target i₀ tree i = source .len - i
 
 abbrev Inv-loop2 : tie.InvT-loop2
-Inv-loop2 tree₀ process lowest target i j₀ tree j = AlongTo tree₀ (Of Processes) target 1 0 (lowest .0) tree j
+Inv-loop2 tree₀ process lowest source target i j₀ tree j = AlongTo tree₀ (Of Processes) target 1 0 (lowest .0) tree j
 
 abbrev μ-loop2 : tie.MeasureT-loop2
-μ-loop2 tree₀ process lowest target i j₀ tree j = target .len - j
+μ-loop2 tree₀ process lowest source target i j₀ tree j = target .len - j
 
 -- the places on the way, from the last to the first
 abbrev first-start : tie.At-loop Inv-loop μ-loop Inv-loop2 μ-loop2 → tie.Start Inv-loop μ-loop Inv-loop2 μ-loop2
@@ -141,8 +141,38 @@ loop2-again c =
     let o = out (out-at m) in
     along-to-next _ _ _ _ _ (come-chain p _ o) (come-along p _ o) _ _ _ (m .loop2 .inv) (c .before .before .before .if2 .taken) _ (c .adjust2 .ensures)
 
+-- ---- after both walks: one member less, one more, and the place
+
+abbrev less-at : tie.After-adjust4 Inv-loop μ-loop Inv-loop2 μ-loop2 → tie.After-adjust3 Inv-loop μ-loop Inv-loop2 μ-loop2
+less-at c = c .before .before .before
+
+abbrev both-at : tie.After-adjust3 Inv-loop μ-loop Inv-loop2 μ-loop2 → tie.Else2 Inv-loop μ-loop Inv-loop2 μ-loop2
+both-at c = c .before .before .before
+
+abbrev loop2-at : tie.Else2 Inv-loop μ-loop Inv-loop2 μ-loop2 → tie.At-loop2 Inv-loop μ-loop Inv-loop2 μ-loop2
+loop2-at c = c .before .before
+
+element-copy-out-adjust-3 : tie.Need-element-copy-out-adjust-3 Inv-loop μ-loop Inv-loop2 μ-loop2
+element-copy-out-adjust-3 c = search needs
+
+adjust-requires-3 : tie.Need-adjust-requires-3 Inv-loop μ-loop Inv-loop2 μ-loop2
+adjust-requires-3 c κs =
+    let z = c .before .before in
+    let m = loop2-at z in
+    move-less (second-start m .pre) _ (out (out-at m)) _ (back z) _ (omega arith)
+
+element-copy-out-adjust-4 : tie.Need-element-copy-out-adjust-4 Inv-loop μ-loop Inv-loop2 μ-loop2
+element-copy-out-adjust-4 c = search needs
+
+adjust-requires-4 : tie.Need-adjust-requires-4 Inv-loop μ-loop Inv-loop2 μ-loop2
+adjust-requires-4 c κs =
+    let l = c .before .before in
+    let z = both-at l in
+    let m = loop2-at z in
+    move-more (second-start m .pre) _ (out (out-at m)) _ (back z) _ (l .adjust3 .ensures) _ (omega arith)
+
 process-user-requires : tie.Need-process-user-requires Inv-loop μ-loop Inv-loop2 μ-loop2
-process-user-requires c κs = standing-low _ _ (second-start (c .before .before .before) .pre .moving .from)
+process-user-requires c κs = standing-low _ _ (second-start (loop2-at (both-at (less-at (c .before)))) .pre .moving .from)
 
 element-copy-out-put-process :
     tie.Need-element-copy-out-put-process Inv-loop μ-loop Inv-loop2 μ-loop2
@@ -150,16 +180,21 @@ element-copy-out-put-process c = search needs
 
 put-process-requires : tie.Need-put-process-requires Inv-loop μ-loop Inv-loop2 μ-loop2
 put-process-requires c κs =
-    let z = c .before .before .before .before in
-    let m = z .before .before in
-    move-rows (second-start m .pre) _ (out (out-at m)) _ (back z)
+    let a = c .before .before .before .before in
+    let l = less-at a in
+    let z = both-at l in
+    let m = loop2-at z in
+    move-rows (second-start m .pre) _ (out (out-at m)) _ (back z) _ (l .adjust3 .ensures) _ (a .adjust4 .ensures)
 
 returns : tie.Need-returns Inv-loop μ-loop Inv-loop2 μ-loop2
 returns c =
     let u = c .before .before .before in
-    let z = u .before .before in
-    let m = z .before .before in
-    moved (second-start m .pre) _ (out (out-at m)) _ (back z) _ _ (u .process-user .ensures) (c .put-process .ensures)
+    let a = u .before .before in
+    let l = less-at a in
+    let z = both-at l in
+    let m = loop2-at z in
+    moved (second-start m .pre) _ (out (out-at m)) _ (back z) _ (l .adjust3 .ensures) _ (a .adjust4 .ensures) _ _ (u .process-user .ensures)
+    (c .put-process .ensures)
 
 pub migrate-spec : {M : Type 1} → statement M
 migrate-spec =
@@ -187,6 +222,10 @@ migrate-spec =
     add-j
     loop2-less
     loop2-again
+    element-copy-out-adjust-3
+    adjust-requires-3
+    element-copy-out-adjust-4
+    adjust-requires-4
     process-user-requires
     element-copy-out-put-process
     put-process-requires

@@ -5,11 +5,11 @@ use super::super::arguments::SETTINGS;
 use super::ALL;
 use crate::call::Call;
 use crate::compare::FILES;
-use crate::model::Model;
+use crate::model::{LAST_GROUP, LAST_PROCESS, Model};
 
 impl Generator {
     /// A group that had everything and is removed; every call on its number, on one that never was
-    /// live or on one above 63; then it is made again under another parent, by another user, where
+    /// live or on one above the last; then it is made again under another parent, by another user, where
     /// all its settings show.
     pub(super) fn afterlife(&mut self, sketch: &mut Model) {
         let above = self.live_group(sketch);
@@ -24,7 +24,7 @@ impl Generator {
         let absent = match self.random.below(10) {
             0..6 => group,
             6 | 7 => never,
-            _ => self.random.pick(&[64, 65, 128, 1 << 32, u64::MAX]),
+            _ => self.random.pick(&[LAST_GROUP + 1, LAST_GROUP + 2, 512, 1 << 32, u64::MAX]),
         };
         for mut call in calls_on(absent, process, live) {
             let anyone = self.random.pick(&[0, owner, owner.wrapping_add(1)]);
@@ -76,7 +76,7 @@ impl Generator {
         let absent = if self.random.percent(70) { process } else { never };
         let live = self.random.one_of(sketch.live_processes()).unwrap_or(0);
         let free = self.free_process(sketch).unwrap_or(0);
-        for new in [free, live, absent, 0, 257] {
+        for new in [free, live, absent, 0, LAST_PROCESS + 1] {
             self.plan(sketch, Call::Fork { parent: absent, process: new });
         }
         for pages in [1, 0, 1_048_577] {
@@ -108,12 +108,12 @@ fn calls_on(group: u64, process: u64, live: u64) -> Vec<Call> {
     vec![
         Call::Make { user, parent: group, group: live },
         Call::Make { user, parent: group, group },
-        Call::Make { user, parent: group, group: 64 },
+        Call::Make { user, parent: group, group: LAST_GROUP + 1 },
         Call::Remove { user, group },
         Call::HandOver { user, group, owner: 7 },
         Call::WriteProcs { user, group, line: process.to_string().into() },
         Call::WriteProcs { user, group, line: line("x") },
-        Call::WriteProcs { user, group, line: line("257") },
+        Call::WriteProcs { user, group, line: (LAST_PROCESS + 1).to_string().into() },
         Call::WriteProcs { user, group, line: line("5 6") },
         Call::WriteSubtreeControl { user, group, line: line("") },
         Call::WriteSubtreeControl { user, group, line: line("+memory") },

@@ -6,7 +6,7 @@ use super::super::arguments::FIGURES;
 use super::ALL;
 use super::stage::has_set;
 use crate::call::Call;
-use crate::model::Model;
+use crate::model::{LAST_PROCESS, Model};
 
 /// Figures that a narrow word would take for small ones, and as many digits as a line holds.
 const WIDE: [&str; 9] = [
@@ -94,7 +94,7 @@ fn setting_lines(file: &[u8]) -> Vec<String> {
         lines.push((high + 4095).to_string());
     }
     if file == b"pids.max" {
-        lines.extend(["255", "256", "257", "65536"].map(String::from));
+        lines.extend(["255", "256", "257", "1023", "1024", "1025", "65536"].map(String::from));
     }
     if file == b"cpu.max" {
         for period in edges(1_000, 1_000_000).into_iter().chain(WIDE.map(String::from)) {
@@ -112,8 +112,8 @@ fn setting_lines(file: &[u8]) -> Vec<String> {
 
 /// The lines are the process's number, or one that could be taken for it.
 fn procs_lines(process: u64) -> Vec<String> {
-    let mut lines = edges(1, 256);
-    for distance in [1 << 8, 1 << 9, 1 << 32, 1 << 64, 1 << 96] {
+    let mut lines = edges(1, LAST_PROCESS);
+    for distance in [1 << 8, 1 << 9, 1 << 10, 1 << 11, 1 << 32, 1 << 64, 1 << 96] {
         lines.push((u128::from(process) + distance).to_string());
     }
     // Added to a figure of 128 bits, the process's number would be left over.

@@ -5,15 +5,16 @@ use super::super::Generator;
 use super::super::arguments::FIGURES;
 use super::stage::{has_set, stacked};
 use crate::call::Call;
-use crate::compare::FILES;
-use crate::model::{CONTROLLERS, Model};
+use crate::compare::{FILES, ROOM};
+use crate::model::{CONTROLLERS, DEEPEST, LAST_GROUP, LAST_PROCESS, Model};
 
 /// How many calls of a kind a scene makes.
-const CALLS: usize = 14;
+const CALLS: usize = 18;
 
 impl Generator {
     pub(super) fn cross_make(&mut self, sketch: &mut Model) {
         self.furnish(sketch);
+        self.deepen(sketch);
         for _ in 0..CALLS {
             let parent = self.any_group(sketch);
             let free = self.free_group(sketch);
@@ -43,7 +44,12 @@ impl Generator {
     pub(super) fn cross_procs(&mut self, sketch: &mut Model) {
         self.furnish(sketch);
         for _ in 0..CALLS {
-            let group = self.any_group(sketch);
+            let is_owned = |&g: &u64| sketch.group(g).is_some_and(|kept| kept.owner != 0);
+            let owned = sketch.live_groups().filter(|&group| has_set(sketch, group));
+            let group = match self.random.one_of(owned.filter(is_owned)) {
+                Some(group) if self.random.percent(15) => group,
+                _ => self.any_group(sketch),
+            };
             let process = self.any_process(sketch);
             let user = match (self.random.below(3), sketch.process(process), sketch.group(group)) {
                 (0, Some(kept), _) => kept.user,
@@ -81,7 +87,7 @@ impl Generator {
         for _ in 0..CALLS {
             let group = self.any_group(sketch);
             let file = self.any_setting(sketch, group);
-            let user = self.any_user(sketch, group);
+            let user = if self.random.percent(25) { 0 } else { self.any_user(sketch, group) };
             let line = self.any_setting_line(&file);
             self.plan(sketch, Call::WriteSetting { user, group, file, line });
         }
@@ -130,9 +136,9 @@ impl Generator {
                     0 => self.odd_file(),
                     _ => self.random.pick(&FILES).to_vec(),
                 };
-                Call::Read { group, file, room: 4096 }
+                Call::Read { group, file, room: ROOM }
             } else {
-                Call::Membership { process: self.any_process(sketch), room: 4096 }
+                Call::Membership { process: self.any_process(sketch), room: ROOM }
             };
             let question = self.with_room(sketch, question);
             self.plan(sketch, question);
@@ -142,15 +148,18 @@ impl Generator {
 
 // Arguments.
 impl Generator {
-    /// Above 63, not live, the root, at depth 8, with a set, with a child that has one, with a
-    /// process, with a child, or any that is live.
+    /// Above the last, not live, the root, at the deepest level, with a set, with a child that has
+    /// one, with a process, with a child, or any that is live.
     pub(super) fn any_group(&mut self, sketch: &Model) -> u64 {
         let below_root = sketch.live_groups().filter(|&group| group != 0);
         let of_kind = match self.random.below(10) {
-            0 => Some(self.random.pick(&[64, 65, 127, 128, 256, 1 << 32, 1 << 63, u64::MAX])),
+            0 => {
+                let (next, wide) = (LAST_GROUP + 1, 1 << 32);
+                Some(self.random.pick(&[next, next, next + 1, 512, 1024, wide, 1 << 63, u64::MAX]))
+            }
             1 => self.free_group(sketch),
             2 => Some(0),
-            3 => self.random.one_of(below_root.filter(|&group| sketch.depth(group) == 8)),
+            3 => self.random.one_of(below_root.filter(|&group| sketch.depth(group) == DEEPEST)),
             4 => self.random.one_of(below_root.filter(|&group| has_set(sketch, group))),
             5 => self.random.one_of(stacked(sketch)),
             6 | 7 => self.random.one_of(below_root.filter(|&g| sketch.holds(g).next().is_some())),
@@ -160,7 +169,7 @@ impl Generator {
         of_kind.unwrap_or_else(|| self.live_group(sketch))
     }
 
-    /// Outside 1 to 256, not live, below the root, or any that is live.
+    /// Out of range, not live, below the root, or any that is live.
     pub(super) fn any_process(&mut self, sketch: &Model) -> u64 {
         let place = |process: u64| sketch.process(process).map_or(0, |kept| kept.group);
         let of_kind = match self.random.below(7) {
@@ -169,9 +178,9 @@ impl Generator {
                 0,
                 0,
                 0,
-                257,
-                258,
-                512,
+                LAST_PROCESS + 1,
+                LAST_PROCESS + 2,
+                2_048,
                 1 << 32,
                 (1 << 32) + 1,
                 u64::MAX,

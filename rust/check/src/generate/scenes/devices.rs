@@ -4,6 +4,7 @@ use super::super::Generator;
 use super::super::devices::{DEVICES, all_max};
 use super::stage::has_set;
 use crate::call::Call;
+use crate::compare::ROOM;
 use crate::devices::forms;
 use crate::model::{Device, Held, IO, KEYS, Model, listed_devices};
 
@@ -30,7 +31,7 @@ impl Generator {
         self.make_room(sketch, group);
         let line = self.drawn(format!("{} wbps=4503599627370496", devices[5]).into());
         self.set_device(sketch, group, line);
-        let question = Call::Read { group, file: b"io.max".to_vec(), room: 4096 };
+        let question = Call::Read { group, file: b"io.max".to_vec(), room: ROOM };
         let question = self.with_room(sketch, question);
         self.plan(sketch, question);
         self.write_back(sketch, group);

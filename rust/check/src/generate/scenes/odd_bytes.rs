@@ -24,7 +24,7 @@ impl Generator {
                 let line = self.number_with(process.to_string().as_bytes(), byte);
                 Call::WriteProcs { user: 0, group, line }
             } else {
-                let file = self.random.pick(&FIGURES).to_vec();
+                let file = FIGURES[place / 2 % FIGURES.len()].to_vec();
                 let line = self.number_with(b"2345", byte);
                 Call::WriteSetting { user: 0, group, file, line }
             };

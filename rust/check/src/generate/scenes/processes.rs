@@ -1,26 +1,26 @@
-//! Every process live.
+//! So many processes that counts and texts are at their ends.
 
 use super::super::Generator;
 use crate::call::Call;
 use crate::model::Model;
 
 impl Generator {
-    /// All 256 processes, in one group or in two below it, under a pids limit about there. Moves
-    /// fill up what forks may not. Then the whole cgroup.procs, into a buffer that it fills and
-    /// one byte less; and limits about the 256 with one process gone and back.
-    pub(super) fn full_house(&mut self, sketch: &mut Model) {
+    /// So many processes, in one group or in two below it, under a pids limit about there. Moves
+    /// fill up what forks may not. Then the whole cgroup.procs, into a buffer that it fills and one
+    /// byte less; and limits about that many with one process gone and back.
+    pub(super) fn house(&mut self, sketch: &mut Model, most: u64) {
         let Some(house) = self.child(sketch, 0, 0) else { return };
         self.control(sketch, 0, "+pids");
         let mut rooms = vec![house];
         if self.random.percent(25) {
             rooms = (0..2).filter_map(|_| self.child(sketch, 0, house)).collect();
         }
-        let limit = self.random.pick(&[254, 255, 255, 256, 257]);
+        let limit = self.random.pick(&[most - 2, most - 1, most - 1, most, most + 1]);
         self.set(sketch, house, "pids.max", limit);
         let user = self.user();
         let parents: Vec<u64> =
             rooms.iter().filter_map(|&room| self.settler(sketch, user, room)).collect();
-        for _ in 0..256 {
+        for _ in parents.len() as u64..most {
             let Some(process) = self.free_process(sketch) else { break };
             let parent = self.random.pick(&parents);
             self.plan(sketch, Call::Fork { parent, process });
@@ -29,11 +29,11 @@ impl Generator {
                 self.migrate(sketch, 0, process, rooms[0]);
             }
         }
-        let length = (1..=256).map(|process: u64| process.to_string().len() + 1).sum();
+        let length = sketch.holds(rooms[0]).map(|process| process.to_string().len() + 1).sum();
         for room in [length, length - 1, 0] {
             self.plan(sketch, Call::Read { group: rooms[0], file: b"cgroup.procs".into(), room });
         }
-        for limit in [255, 256, 257] {
+        for limit in [most - 1, most, most + 1] {
             self.set(sketch, house, "pids.max", limit);
             let Some(process) = self.random.one_of(sketch.live_processes()) else { return };
             if parents.contains(&process) {

@@ -2,7 +2,7 @@
 
 use super::super::Generator;
 use crate::call::Call;
-use crate::compare::FILES;
+use crate::compare::{FILES, ROOM};
 use crate::model::{CONTROLLERS, Model};
 
 impl Generator {
@@ -10,12 +10,12 @@ impl Generator {
     pub(super) fn tight_reads(&mut self, sketch: &mut Model) {
         let group = self.live_group(sketch);
         for file in FILES {
-            let question = Call::Read { group, file: file.to_vec(), room: 4096 };
+            let question = Call::Read { group, file: file.to_vec(), room: ROOM };
             let question = self.with_room(sketch, question);
             self.plan(sketch, question);
         }
         if let Some(process) = self.random.one_of(sketch.live_processes()) {
-            let question = Call::Membership { process, room: 4096 };
+            let question = Call::Membership { process, room: ROOM };
             let question = self.with_room(sketch, question);
             self.plan(sketch, question);
         }

@@ -3,14 +3,13 @@
 use super::super::Generator;
 use super::ALL;
 use crate::call::Call;
-use crate::model::{Model, PIDS};
+use crate::model::{DEEPEST, Model, PIDS};
 
 impl Generator {
-    /// Makes what is not there yet: a group at depth 8; a user's group that has a controller in its
-    /// set, in a child's and in a grandchild's; beside the child a group with another user's
-    /// process, which finds no room above for a page or a process.
+    /// Makes what is not there yet: a user's group that has a controller in its set, in a child's and
+    /// in a grandchild's; beside the child a group with another user's process, which finds no room
+    /// above for a page or a process.
     pub(super) fn furnish(&mut self, sketch: &mut Model) {
-        self.deepen(sketch);
         if stacked(sketch).next().is_some() && is_crowded(sketch) {
             return;
         }
@@ -34,11 +33,11 @@ impl Generator {
         self.set(sketch, top, "memory.max", 0);
     }
 
-    /// A group at depth 8, under one of the deepest.
-    fn deepen(&mut self, sketch: &mut Model) {
+    /// A group at the deepest level, under one of those that come nearest to it.
+    pub(super) fn deepen(&mut self, sketch: &mut Model) {
         let deepest = sketch.live_groups().max_by_key(|&group| sketch.depth(group));
         let mut bottom = deepest.unwrap_or(0);
-        while sketch.depth(bottom) < 8 {
+        while sketch.depth(bottom) < DEEPEST {
             let Some(child) = self.child(sketch, 0, bottom) else { return };
             if sketch.group(child).is_none() {
                 return;

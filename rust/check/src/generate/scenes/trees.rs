@@ -2,7 +2,7 @@
 
 use super::super::Generator;
 use crate::call::Call;
-use crate::model::Model;
+use crate::model::{DEEPEST, Model};
 
 impl Generator {
     /// Downward from some group as far as it goes and one further, controllers on all the way, and
@@ -12,7 +12,7 @@ impl Generator {
         let words =
             self.random.pick(&["+memory +pids +cpu", "+memory", "+io +pids", "+cpu +memory"]);
         self.reach(sketch, bottom, words);
-        for _ in 0..10 {
+        for _ in 0..DEEPEST + 2 {
             let Some(child) = self.child(sketch, 0, bottom) else { break };
             if sketch.group(child).is_none() {
                 break;
@@ -34,7 +34,7 @@ impl Generator {
         let user = self.user();
         let group = self.live_group(sketch);
         let Some(parent) = self.settler(sketch, user, group) else { return };
-        for _ in 0..self.random.pick(&[3, 3, 20, 20, 60, 256]) {
+        for _ in 0..self.random.pick(&[3, 3, 20, 20, 60, 260]) {
             let Some(process) = self.free_process(sketch) else { return };
             self.plan(sketch, Call::Fork { parent, process });
         }
@@ -42,7 +42,7 @@ impl Generator {
 
     /// Many groups under any others.
     pub(super) fn grove(&mut self, sketch: &mut Model) {
-        for _ in 0..self.random.pick(&[3, 3, 12, 12, 40, 63]) {
+        for _ in 0..self.random.pick(&[3, 3, 12, 12, 40, 100]) {
             let parent = self.live_group(sketch);
             if self.child(sketch, 0, parent).is_none() {
                 return;

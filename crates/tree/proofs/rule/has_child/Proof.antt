@@ -1,12 +1,12 @@
--- `groups::remove::has_child` meets its contract: the live children are counted in the group's row. Assumes nothing.
+-- `tree::rule::has_child` meets its contract: the live children are counted in the group's row. Assumes nothing.
 use Prim.Native.Nat.{ℕ}
 use mathlib.Core.Bool.{not}
 use mathlib.Core.Path.{ap, _∙_}
 use lib.Dec.{eqb}
 use borrow.Author.Needs.{needs}
-use Rattle.groups.proofs.LeafLaws.{hasChild-counted}
-use Rattle.groups.proofs.remove.has_child.Statement.{statement}
-use Rattle.groups.proofs.remove.has_child.Tie as tie
+use Rattle.tree.proofs.CountLaws.{hasChild-counted}
+use Rattle.tree.proofs.rule.has_child.Statement.{statement}
+use Rattle.tree.proofs.rule.has_child.Tie as tie
 
 count-requires : tie.Need-count-requires
 count-requires c κs = search needs
