@@ -97,7 +97,7 @@ static const uint64_t groups[] = {
 };
 static const uint64_t processes[] = { 0, 1, 9, 10, 100, SS_LAST_PROCESS - 1, SS_LAST_PROCESS, SS_LAST_PROCESS + 1, UINT64_MAX };
 static const uint64_t pages[] = { 0, 1, SS_MAX_PAGES, SS_MAX_PAGES + 1, SS_MAX_MACHINE_PAGES, UINT64_MAX };
-static const uint64_t rooms[] = { 0, 4, 67, 68, SS_LONGEST_REPLY - 1, SS_LONGEST_REPLY };
+static const uint64_t rooms[] = { 0, 4, SS_LONGEST_MEMBERSHIP - 1, SS_LONGEST_MEMBERSHIP, SS_LONGEST_REPLY - 1, SS_LONGEST_REPLY };
 
 static const char *const files[] = {
 	"cgroup.procs", "cgroup.controllers", "cgroup.subtree_control", "cgroup.events", "memory.current", "memory.max",

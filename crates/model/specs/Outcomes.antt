@@ -6,6 +6,7 @@ use Prim.Native.String.{String}
 use mathlib.Core.List.{List, [], _∷_, _++_, map}
 use mathlib.Core.Option.{none}
 use lib.ListN.{length, replicate}
+use Rattle.model.specs.Sizes.{longestMembership}
 use Rattle.model.specs.Text.{bytes}
 use Rattle.model.specs.Calls.{make, remove, handOver, writeSetting, admit, fork, exit, charge, release, read, membership}
 use Rattle.model.specs.Worked.{Exchange, exchange, succeeds, refuses, granted, stopped, reads, belongs, setting, control, procs, Evening, evening}
@@ -154,7 +155,7 @@ farUp =
     (allSucceed (descent 0 deepChain)
     ++ allSucceed (make 0 240 1 ∷ handOver 0 1 7 ∷ control 0 0 "+memory +pids" ∷ admit 5 7 ∷ procs 0 255 "5" ∷ [])
     ++ exchange (membership 5 (replicate 67 1)) 28 none 0 0 (replicate 67 1) ∷ []
-    ++ exchange (membership 5 (replicate 68 1)) 0 none 0 68 (bytes deepLine) ∷ []
+    ++ exchange (membership 5 (replicate longestMembership 1)) 0 none 0 68 (bytes deepLine) ∷ []
     ++ allSucceed (setting 0 240 "memory.max" "4096" ∷ setting 0 240 "pids.max" "1" ∷ []) ++ granted (charge 5 1) 17 ∷ []
     ++ stopped (charge 5 1) 12 240 16 ∷ stopped (fork 5 6) 11 240 16 ∷ reads 240 "memory.current" "4096\n" ∷ []
     ++ readsIn (240 ∷ 247 ∷ 248 ∷ 255 ∷ []) "cgroup.events" "populated 1\n"

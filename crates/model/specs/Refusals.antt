@@ -1,6 +1,7 @@
 -- A second table of evenings, beside the paper's own in Worked.antt: for each call of document 01 the number of each refusal and,
 -- wherever two checks can both fail, that the earlier one's number wins; who may; and the lines that are malformed. The ends of ranges
--- are order 4's. What accepted calls do, and what readers see, is in Outcomes.antt. Group 9 and process 9 are never live. Assumes nothing.
+-- are order 4's, and of the numbers further out each would be in range if it were kept in 8, 10 or 32 bits. What accepted calls do, and
+-- what readers see, is in Outcomes.antt. Group 9 and process 9 are never live. Assumes nothing.
 use Prim.Native.Nat.{ℕ, _-_}
 use Prim.Native.String.{String}
 use mathlib.Core.List.{List, [], _∷_, _++_, map}
@@ -42,7 +43,7 @@ abbrev pub making : Evening
 making =
     evening 0
     (begun
-    ++ allGet 22 (make 0 256 4 ∷ make 0 256 1 ∷ make 0 9 256 ∷ make 8 1 256 ∷ [])
+    ++ allGet 22 (make 0 256 4 ∷ make 0 256 1 ∷ make 0 9 256 ∷ make 8 1 256 ∷ make 7 257 4 ∷ make 7 1 260 ∷ [])
     ++ allGet 2 (make 0 9 1 ∷ make 0 9 9 ∷ make 8 9 4 ∷ [])
     ++ allGet 17 (make 8 1 2 ∷ make 8 0 0 ∷ make 7 1 1 ∷ [])
     ++ allGet 13 (make 8 1 4 ∷ make 7 0 4 ∷ [])
@@ -87,7 +88,7 @@ removing =
     (refuses (remove 0 0) 16
     ∷ begun
     ++ allSucceed (procs 0 2 "5" ∷ [])
-    ++ allGet 22 (remove 7 256 ∷ [])
+    ++ allGet 22 (remove 7 256 ∷ remove 0 258 ∷ remove 0 4294967298 ∷ [])
     ++ allGet 2 (remove 7 9 ∷ [])
     ++ allGet 13 (remove 7 1 ∷ remove 7 0 ∷ remove 8 2 ∷ [])
     ++ allGet 16 (remove 0 0 ∷ remove 0 1 ∷ remove 7 2 ∷ [])
@@ -102,7 +103,7 @@ abbrev pub handing : Evening
 handing =
     evening 0
     (begun
-    ++ allGet 22 (handOver 7 0 7 ∷ handOver 7 256 7 ∷ [])
+    ++ allGet 22 (handOver 7 0 7 ∷ handOver 7 256 7 ∷ handOver 0 257 7 ∷ handOver 0 4294967297 7 ∷ [])
     ++ allGet 2 (handOver 7 9 7 ∷ [])
     ++ allGet 13 (handOver 7 1 8 ∷ handOver 7 2 8 ∷ make 8 1 4 ∷ [])
     ++ allSucceed (handOver 0 1 7 ∷ handOver 0 1 0 ∷ [])
@@ -115,14 +116,14 @@ moving =
     evening 0
     (begun
     ++ allSucceed (control 0 0 "+cpu" ∷ control 7 1 "+cpu" ∷ [])
-    ++ allGet 22 (map (procs 8 256) ("x" ∷ "1025" ∷ []))
+    ++ allGet 22 (map (procs 8 256) ("x" ∷ "1025" ∷ []) ++ procs 0 258 "5" ∷ procs 0 4294967298 "5" ∷ [])
     ++ allGet 2 (map (procs 8 9) ("x" ∷ "1025" ∷ []))
     ++ allGet 13 (map (procs 8 2) ("x" ∷ "0" ∷ "9" ∷ "1025" ∷ []))
     ++ allGet 13 (writeProcs 8 2 (padded 129 "5") ∷ procs 7 0 "5" ∷ [])
     ++ allGet 22 (map (procs 7 2) ("" ∷ "x" ∷ "5 6" ∷ "+5" ∷ "-1" ∷ "5\t" ∷ "5\n\n" ∷ "5\r\n" ∷ "0" ∷ "000" ∷ []))
     ++ allGet 22 (map (procs 7 2) ("5:" ∷ "/5" ∷ ":" ∷ "\n5" ∷ []))
     ++ allGet 22 (map (writeProcs 7 2) (padded 129 "9" ∷ padded 129 "1025" ∷ ended (padded 128 "5") ∷ []))
-    ++ allGet 3 (map (procs 7 2) ("9" ∷ "1025" ∷ "4294967301" ∷ "18446744073709551621" ∷ []))
+    ++ allGet 3 (map (procs 7 2) ("9" ∷ "1025" ∷ "1029" ∷ "4294967301" ∷ "18446744073709551621" ∷ []))
     ++ allGet 13 (procs 7 2 "5" ∷ [])
     ++ allSucceed (procs 0 2 "5" ∷ procs 0 2 "6" ∷ [])
     ++ allGet 13 (procs 7 3 "6" ∷ procs 7 1 "6" ∷ [])
@@ -138,7 +139,7 @@ controlling =
     evening 0
     (begun
     ++ allSucceed (control 0 0 "+cpu +memory" ∷ handOver 0 3 8 ∷ [])
-    ++ allGet 22 (control 8 256 "x" ∷ [])
+    ++ allGet 22 (control 8 256 "x" ∷ control 0 257 "" ∷ control 0 4294967297 "" ∷ [])
     ++ allGet 2 (control 8 9 "x" ∷ [])
     ++ allGet 13 (map (control 8 1) ("x" ∷ "+pids" ∷ []))
     ++ allGet 13 (writeControl 8 1 (padded 129 "") ∷ control 7 3 "" ∷ control 7 0 "" ∷ [])
@@ -188,7 +189,7 @@ settingForms =
     evening 0
     (begun
     ++ allSucceed (control 0 0 "+cpu +memory" ∷ control 7 1 "+cpu" ∷ handOver 0 2 8 ∷ make 8 2 4 ∷ control 8 2 "+cpu" ∷ [])
-    ++ allGet 22 (setting 8 256 "cpu" "x" ∷ [])
+    ++ allGet 22 (setting 8 256 "cpu" "x" ∷ setting 0 258 "cpu.weight" "1" ∷ setting 0 4294967298 "cpu.weight" "1" ∷ [])
     ++ allGet 2 (setting 8 9 "cpu.max" "x" ∷ setting 8 2 "memory.max" "x" ∷ setting 0 0 "cpu.weight" "100" ∷ [])
     ++ allGet 2 (map (λ file. setting 8 1 file "x") ("cpu" ∷ "memory.current" ∷ "cpu.maxx" ∷ "cpu.max\n" ∷ "CPU.MAX" ∷ "" ∷ []))
     ++ allGet 13 (map (setting 8 2 "cpu.max") ("x" ∷ "5" ∷ []))
@@ -216,16 +217,16 @@ abbrev pub births : Evening
 births =
     evening 0
     (begun
-    ++ allGet 22 (admit 0 7 ∷ admit 1025 7 ∷ [])
+    ++ allGet 22 (admit 0 7 ∷ admit 1025 7 ∷ admit 1026 7 ∷ admit 4294967304 7 ∷ [])
     ++ allGet 17 (admit 5 8 ∷ [])
     ++ succeeds (admit 1024 0) ∷ belongs 1024 "0::/\n" ∷ granted (fork 5 4) 1 ∷ []
     ++ allSucceed (control 0 0 "+pids" ∷ setting 0 1 "pids.max" "0" ∷ procs 0 2 "5" ∷ [])
-    ++ allGet 3 (fork 0 1025 ∷ fork 1025 0 ∷ fork 9 0 ∷ fork 9 5 ∷ [])
-    ++ allGet 22 (fork 5 0 ∷ fork 5 1025 ∷ [])
+    ++ allGet 3 (fork 0 1025 ∷ fork 1025 0 ∷ fork 1029 8 ∷ fork 4294967301 8 ∷ fork 9 0 ∷ fork 9 5 ∷ [])
+    ++ allGet 22 (fork 5 0 ∷ fork 5 1025 ∷ fork 5 1032 ∷ fork 5 4294967304 ∷ [])
     ++ allGet 17 (fork 5 5 ∷ fork 5 6 ∷ [])
     ++ stopped (fork 5 7) 11 1 2 ∷ succeeds (setting 0 1 "pids.max" "2") ∷ granted (fork 5 7) 3 ∷ []
     ++ stopped (fork 5 8) 11 1 2 ∷ succeeds (procs 7 3 "7") ∷ belongs 7 "0::/1/3\n" ∷ []
-    ++ allGet 3 (exit 0 ∷ exit 9 ∷ exit 1025 ∷ [])
+    ++ allGet 3 (exit 0 ∷ exit 9 ∷ exit 1025 ∷ exit 1029 ∷ exit 4294967301 ∷ [])
     ++ succeeds (exit 7) ∷ refuses (exit 7) 3 ∷ succeeds (admit 7 0) ∷ [])
 
 -- Charge: 3, 22, 12, where a process out of range is 3. A machine of no pages refuses every charge.
@@ -233,7 +234,7 @@ abbrev pub charging : Evening
 charging =
     evening 0
     (begun
-    ++ allGet 3 (charge 0 0 ∷ charge 1025 0 ∷ charge 9 1048577 ∷ [])
+    ++ allGet 3 (charge 0 0 ∷ charge 1025 0 ∷ charge 1029 1 ∷ charge 4294967301 1 ∷ charge 9 1048577 ∷ [])
     ++ allGet 22 (charge 5 0 ∷ charge 5 1048577 ∷ [])
     ++ stopped (charge 5 1) 12 0 1 ∷ [])
 
@@ -245,7 +246,7 @@ releasing =
     ++ allSucceed (control 0 0 "+memory" ∷ procs 0 2 "5" ∷ setting 0 1 "memory.max" "0" ∷ [])
     ++ stopped (charge 5 1) 12 1 2 ∷ succeeds (setting 0 1 "memory.max" "max") ∷ granted (charge 5 1048576) 3 ∷ []
     ++ stopped (charge 5 1) 12 0 3 ∷ stopped (charge 6 1) 12 0 1 ∷ []
-    ++ allGet 22 (release 256 1 ∷ release 9 0 ∷ release 9 1048577 ∷ release 1 1048577 ∷ [])
+    ++ allGet 22 (release 256 1 ∷ release 258 1 ∷ release 4294967298 1 ∷ release 9 0 ∷ release 9 1048577 ∷ release 1 1048577 ∷ [])
     ++ allGet 2 (release 9 1 ∷ [])
     ++ allGet 34 (release 1 1 ∷ [])
     ++ succeeds (release 2 1048576) ∷ refuses (release 2 1) 34 ∷ [])
@@ -255,10 +256,10 @@ abbrev pub reading : Evening
 reading =
     evening 0
     (allSucceed (make 0 0 1 ∷ admit 200 0 ∷ admit 3 0 ∷ admit 12 0 ∷ [])
-    ++ unread 256 "cgroup" 22 ∷ unread 256 "cgroup.events" 22 ∷ unread 9 "cgroup.events" 2 ∷ []
+    ++ unread 256 "cgroup" 22 ∷ unread 256 "cgroup.events" 22 ∷ unread 257 "cgroup.events" 22 ∷ unread 4294967297 "cgroup.events" 22 ∷ unread 9 "cgroup.events" 2 ∷ []
     ++ unread 0 "cgroup.events" 2 ∷ unread 1 "cpu.max" 2 ∷ unread 0 "cgroup.procs" 28 ∷ []
     ++ map (λ file. unread 1 file 2) ("cgroup" ∷ "cgroup.procsx" ∷ "cgroup.procs\n" ∷ "CGROUP.PROCS" ∷ "" ∷ [])
-    ++ unknown 0 3 ∷ unknown 9 3 ∷ unknown 1025 3 ∷ unknown 12 28 ∷ [])
+    ++ unknown 0 3 ∷ unknown 9 3 ∷ unknown 1025 3 ∷ unknown 1036 3 ∷ unknown 4294967308 3 ∷ unknown 12 28 ∷ [])
 
 unfoldable pub refusals : List Evening
 refusals =

@@ -1,5 +1,5 @@
--- A process's place and the running sums above it, changed together: what a change asks, and what it leaves. Document 01,
--- "Admit", "Fork", "Exit" and "Write cgroup.procs". Assumes nothing.
+-- A process's place, the running sums above it and the members of its group, changed together: what a change asks, and what it leaves.
+-- Document 01, "Admit", "Fork", "Exit" and "Write cgroup.procs". Assumes nothing.
 use Prim.Native.Nat.{ℕ, _<_}
 use mathlib.Core.Bool.{true, false}
 use mathlib.Core.List.{List}

@@ -54,7 +54,8 @@ pub fn is_available(t: &Tree, c: Controller, g: GroupId) -> bool
     is_on(t, c, g)
 }
 
-// Whether group k is a live child of g. Its parent is asked first: of most groups a pass over all then reads that word alone.
+// Whether group k is a live child of g. Its parent is asked first: unless g is the root, a pass over all groups then reads that word
+// alone of most.
 pub fn is_child(t: &Tree, g: GroupId, k: GroupId) -> bool
     requires { ⌜ k .0 < groups ⌝ }
     ensures { λ r. ⌜ r ≡ childOf (g .0) (k .0) (cores (view (now (t .entry))) (k .0)) ⌝ }

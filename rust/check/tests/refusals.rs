@@ -30,6 +30,7 @@ both! {
 fn making<H: Calls>() {
     let mut evening = Evening::<H>::begun(0);
     evening.get(22, [make(0, 256, 4), make(0, 256, 1), make(0, 9, 256), make(8, 1, 256)]);
+    evening.get(22, [make(7, 257, 4), make(7, 1, 260)]);
     evening.get(2, [make(0, 9, 1), make(0, 9, 9), make(8, 9, 4)]);
     evening.get(17, [make(8, 1, 2), make(8, 0, 0), make(7, 1, 1)]);
     evening.get(13, [make(8, 1, 4), make(7, 0, 4)]);
@@ -60,7 +61,7 @@ fn removing<H: Calls>() {
     Evening::<H>::of(0).get(16, [remove(0, 0)]);
     let mut evening = Evening::<H>::begun(0);
     evening.succeed([procs(0, 2, "5")]);
-    evening.get(22, [remove(7, 256)]);
+    evening.get(22, [remove(7, 256), remove(0, 258), remove(0, 4294967298)]);
     evening.get(2, [remove(7, 9)]);
     evening.get(13, [remove(7, 1), remove(7, 0), remove(8, 2)]);
     evening.get(16, [remove(0, 0), remove(0, 1), remove(7, 2)]);
@@ -74,6 +75,7 @@ fn removing<H: Calls>() {
 fn handing<H: Calls>() {
     let mut evening = Evening::<H>::begun(0);
     evening.get(22, [hand_over(7, 0, 7), hand_over(7, 256, 7)]);
+    evening.get(22, [hand_over(0, 257, 7), hand_over(0, 4294967297, 7)]);
     evening.get(2, [hand_over(7, 9, 7)]);
     evening.get(13, [hand_over(7, 1, 8), hand_over(7, 2, 8), make(8, 1, 4)]);
     evening.succeed([hand_over(0, 1, 7), hand_over(0, 1, 0)]);
@@ -84,6 +86,7 @@ fn moving<H: Calls>() {
     let mut evening = Evening::<H>::begun(0);
     evening.succeed([control(0, 0, "+cpu"), control(7, 1, "+cpu")]);
     evening.get(22, ["x", "1025"].map(|line| procs(8, 256, line)));
+    evening.get(22, [procs(0, 258, "5"), procs(0, 4294967298, "5")]);
     evening.get(2, ["x", "1025"].map(|line| procs(8, 9, line)));
     evening.get(13, ["x", "0", "9", "1025"].map(|line| procs(8, 2, line)));
     evening.get(13, [procs(8, 2, padded(129, "5")), procs(7, 0, "5")]);
@@ -92,7 +95,7 @@ fn moving<H: Calls>() {
     evening.get(22, ["5:", "/5", ":", "\n5"].map(|line| procs(7, 2, line)));
     let long = [padded(129, "9"), padded(129, "1025"), padded(128, "5") + "\n"];
     evening.get(22, long.map(|line| procs(7, 2, line)));
-    let strangers = ["9", "1025", "4294967301", "18446744073709551621"];
+    let strangers = ["9", "1025", "1029", "4294967301", "18446744073709551621"];
     evening.get(3, strangers.map(|line| procs(7, 2, line)));
     evening.get(13, [procs(7, 2, "5")]);
     evening.succeed([procs(0, 2, "5"), procs(0, 2, "6")]);
@@ -107,7 +110,7 @@ fn moving<H: Calls>() {
 fn controlling<H: Calls>() {
     let mut evening = Evening::<H>::begun(0);
     evening.succeed([control(0, 0, "+cpu +memory"), hand_over(0, 3, 8)]);
-    evening.get(22, [control(8, 256, "x")]);
+    evening.get(22, [control(8, 256, "x"), control(0, 257, ""), control(0, 4294967297, "")]);
     evening.get(2, [control(8, 9, "x")]);
     evening.get(13, [control(8, 1, "x"), control(8, 1, "+pids"), control(8, 1, padded(129, ""))]);
     evening.get(13, [control(7, 3, ""), control(7, 0, "")]);
@@ -161,6 +164,7 @@ fn setting_forms<H: Calls>() {
     evening.succeed([control(0, 0, "+cpu +memory"), control(7, 1, "+cpu"), hand_over(0, 2, 8)]);
     evening.succeed([make(8, 2, 4), control(8, 2, "+cpu")]);
     evening.get(22, [setting(8, 256, "cpu", "x")]);
+    evening.get(22, [258, 4294967298].map(|group| setting(0, group, "cpu.weight", "1")));
     evening.get(2, [setting(8, 9, "cpu.max", "x"), setting(8, 2, "memory.max", "x")]);
     evening.get(2, [setting(0, 0, "cpu.weight", "100")]);
     let files = ["cpu", "memory.current", "cpu.maxx", "cpu.max\n", "CPU.MAX", ""];
@@ -190,14 +194,15 @@ fn limit_forms<H: Calls>() {
 
 fn births<H: Calls>() {
     let mut evening = Evening::<H>::begun(0);
-    evening.get(22, [admit(0, 7), admit(1025, 7)]);
+    evening.get(22, [admit(0, 7), admit(1025, 7), admit(1026, 7), admit(4294967304, 7)]);
     evening.get(17, [admit(5, 8)]);
     evening.succeed([admit(1024, 0)]);
     evening.belongs(1024, "0::/\n");
     evening.granted(fork(5, 4), 1);
     evening.succeed([control(0, 0, "+pids"), setting(0, 1, "pids.max", "0"), procs(0, 2, "5")]);
-    evening.get(3, [fork(0, 1025), fork(1025, 0), fork(9, 0), fork(9, 5)]);
-    evening.get(22, [fork(5, 0), fork(5, 1025)]);
+    evening.get(3, [fork(0, 1025), fork(1025, 0), fork(1029, 8), fork(4294967301, 8)]);
+    evening.get(3, [fork(9, 0), fork(9, 5)]);
+    evening.get(22, [fork(5, 0), fork(5, 1025), fork(5, 1032), fork(5, 4294967304)]);
     evening.get(17, [fork(5, 5), fork(5, 6)]);
     evening.stopped(fork(5, 7), 11, 1, 2);
     evening.succeed([setting(0, 1, "pids.max", "2")]);
@@ -205,7 +210,7 @@ fn births<H: Calls>() {
     evening.stopped(fork(5, 8), 11, 1, 2);
     evening.succeed([procs(7, 3, "7")]);
     evening.belongs(7, "0::/1/3\n");
-    evening.get(3, [exit(0), exit(9), exit(1025)]);
+    evening.get(3, [exit(0), exit(9), exit(1025), exit(1029), exit(4294967301)]);
     evening.succeed([exit(7)]);
     evening.get(3, [exit(7)]);
     evening.succeed([admit(7, 0)]);
@@ -213,7 +218,8 @@ fn births<H: Calls>() {
 
 fn charging<H: Calls>() {
     let mut evening = Evening::<H>::begun(0);
-    evening.get(3, [charge(0, 0), charge(1025, 0), charge(9, 1048577)]);
+    evening.get(3, [charge(0, 0), charge(1025, 0), charge(1029, 1), charge(4294967301, 1)]);
+    evening.get(3, [charge(9, 1048577)]);
     evening.get(22, [charge(5, 0), charge(5, 1048577)]);
     evening.stopped(charge(5, 1), 12, 0, 1);
 }
@@ -226,7 +232,8 @@ fn releasing<H: Calls>() {
     evening.granted(charge(5, 1048576), 3);
     evening.stopped(charge(5, 1), 12, 0, 3);
     evening.stopped(charge(6, 1), 12, 0, 1);
-    evening.get(22, [release(256, 1), release(9, 0), release(9, 1048577), release(1, 1048577)]);
+    evening.get(22, [release(256, 1), release(258, 1), release(4294967298, 1)]);
+    evening.get(22, [release(9, 0), release(9, 1048577), release(1, 1048577)]);
     evening.get(2, [release(9, 1)]);
     evening.get(34, [release(1, 1)]);
     evening.succeed([release(2, 1048576)]);
@@ -238,6 +245,8 @@ fn reading<H: Calls>() {
     evening.succeed([make(0, 0, 1), admit(200, 0), admit(3, 0), admit(12, 0)]);
     evening.unread(256, "cgroup", 22);
     evening.unread(256, "cgroup.events", 22);
+    evening.unread(257, "cgroup.events", 22);
+    evening.unread(4294967297, "cgroup.events", 22);
     evening.unread(9, "cgroup.events", 2);
     evening.unread(0, "cgroup.events", 2);
     evening.unread(1, "cpu.max", 2);
@@ -246,6 +255,8 @@ fn reading<H: Calls>() {
     evening.unknown(0, 3);
     evening.unknown(9, 3);
     evening.unknown(1025, 3);
+    evening.unknown(1036, 3);
+    evening.unknown(4294967308, 3);
     evening.unknown(12, 28);
 }
 

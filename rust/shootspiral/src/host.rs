@@ -466,7 +466,7 @@ fn refusal(number: u32) -> Refusal {
     }
 }
 
-/// A whole reply, mostly of no more bytes than this: the buffer grows while it is too short.
+/// A whole reply, of no more bytes than this; of a library with other sizes the buffer grows.
 fn whole(
     longest: usize,
     read: impl Fn(&mut [u8]) -> Result<usize, Refusal>,
