@@ -147,8 +147,8 @@ ends =
     ++ allSucceed (control 0 255 "-cpu" ∷ control 0 1 "-cpu" ∷ control 0 1 "+cpu" ∷ []) ++ reads 255 "cpu.weight" "100\n" ∷ []
     ++ allSucceed (handOver 0 255 7 ∷ make 7 255 254 ∷ remove 7 254 ∷ remove 0 255 ∷ []))
 
--- The longest chain: the limits of the group at depth 1 are asked of a process at depth 16, which is counted there, and whose move to
--- another child of that group asks who owns it. The longest membership line fits its 68 bytes, and not 67.
+-- The longest chain. A process at depth 16 is counted in the group at depth 1 and stopped by its limits; its move to another child of that
+-- group asks who owns the group. The longest membership line fits its 68 bytes, and not 67.
 abbrev pub farUp : Evening
 farUp =
     evening 8

@@ -54,8 +54,8 @@ pub fn is_available(t: &Tree, c: Controller, g: GroupId) -> bool
     is_on(t, c, g)
 }
 
-// Whether group k is a live child of g. Its parent is asked first: unless g is the root, a pass over all groups then reads that word
-// alone of most.
+// Whether group k is a live child of g. Its parent is asked first, so that a pass over all groups reads one word of most rows, unless
+// g is the root: a free row has 0 for its parent.
 pub fn is_child(t: &Tree, g: GroupId, k: GroupId) -> bool
     requires { ⌜ k .0 < groups ⌝ }
     ensures { λ r. ⌜ r ≡ childOf (g .0) (k .0) (cores (view (now (t .entry))) (k .0)) ⌝ }

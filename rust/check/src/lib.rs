@@ -1,5 +1,5 @@
 //! Compares Shootspiral with a plain model of the papers: the same calls to both, and after every
-//! call the same answer, the same reply buffer and the same readable tree.
+//! call the same answer and reply buffer, and what can be read of the tree.
 //!
 //! - [`model`]: the papers as a plain program, every figure worked out by its definition
 //! - [`checks`]: the table of all checks, by which the model names its refusals
