@@ -1,4 +1,5 @@
 pub mod PlaceLaws
+pub mod MoveLaws
 pub mod BirthLaws
 pub mod ExitLaws
 pub mod MigrationLaws

@@ -9,7 +9,8 @@ use Rattle.tree.specs.Counters.{bottom}
 use Rattle.tree.specs.declared.sum.Counter.the-variants.{Of}
 use Rattle.tree.proofs.AdjustLaws.{Rising}
 use Rattle.tree.proofs.AlongLaws.{AlongTo, along-to-start, along-to-more, along-to-countable, along-to-next, along-to-end}
-use Rattle.processes.proofs.PlaceLaws.{standing-low, leave-chain, leave-along, meeting-left, come-chain, come-meeting, come-along, move-less, move-more, move-rows, moved}
+use Rattle.processes.proofs.PlaceLaws.{standing-low}
+use Rattle.processes.proofs.MoveLaws.{leave-chain, leave-along, meeting-left, come-chain, come-meeting, come-along, move-less, move-more, move-rows, moved}
 use Rattle.processes.proofs.migration.migrate.Statement.{statement}
 use Rattle.processes.proofs.migration.migrate.Tie as tie
 
