@@ -12,8 +12,20 @@
  *
  * Then the last numbers, all live: 239 below the root, memory.max 2000 pages, 240 below it, and so on
  * down to 253 at depth 15; below that 254 with all 1024 processes, and 255 with none and an own page.
+ * Then the same when all processes have ended and all these groups are removed, the deepest first.
  *
- * A row is a call, the number that 01 gives it and what it tells. The rows of a call stand in the
+ * Then zombies beside the live:
+ *
+ *     0  1024 pages; cpu, io, memory and pids in its set; process 20 of user 2000, zombie 1
+ *     |- 1   of user 1000, pids.max 2; process 10 of user 1000, zombie 11
+ *     |- 2   zombies 12 and 13
+ *     |- 3   pids.max 1; process 16 of user 1000
+ *     |- 4   with 5 below it, and 6 below that; both removed, with zombie 14 in 6
+ *     `- 201 to 216, as above, all removed, with zombie 30 in 216
+ *
+ * Group 7 and process 15 are free again there: 15 ended in 7, 7 was removed, and 15 was collected.
+ *
+ * A row is a call, the number that the papers give it and what it tells. The rows of a call stand in the
  * order of its checks, and many break a later check too. Where a line, a file name or a buffer has
  * length 0 the row runs again with NULL in its place.
  */
@@ -29,6 +41,8 @@
 #define TWO_32 UINT64_C(4294967296) /* to 32 */
 #define MOST UINT64_MAX
 #define NONE SS_NO_GROUP
+
+#define COUNT(array) (sizeof(array) / sizeof(array)[0])
 
 struct bytes {
 	const char *at;
@@ -50,7 +64,7 @@ struct bytes {
 #define DEVICE(number) number " rbps=4503599627370496 wbps=4503599627370496 riops=4503599627370496 wiops=4503599627370496\n"
 #define FOUR_DEVICES DEVICE("255:252") DEVICE("255:253") DEVICE("255:254") DEVICE("255:255")
 
-enum call { MAKE, REMOVE, HAND_OVER, PROCS, CONTROL, SETTING, ADMIT, FORK, EXIT, CHARGE, RELEASE, READ, MEMBERSHIP, WORD };
+enum call { MAKE, REMOVE, HAND_OVER, PROCS, CONTROL, SETTING, ADMIT, FORK, EXIT, COLLECT, CHARGE, RELEASE, READ, MEMBERSHIP, WORD };
 
 struct row {
 	enum call call;
@@ -88,6 +102,8 @@ struct row {
 	  .told = { group, consulted } }
 #define EXIT(process, n) \
 	{ .call = EXIT, .shown = "ss_exit " #process, .first = process, .number = n }
+#define COLLECT(process, n) \
+	{ .call = COLLECT, .shown = "ss_collect " #process, .first = process, .number = n }
 #define CHARGE(process, pages, n, group, consulted) \
 	{ .call = CHARGE, .shown = "ss_charge " #process ", " #pages, .first = process, .second = pages, .number = n, .tells = 2, \
 	  .told = { group, consulted } }
@@ -396,6 +412,15 @@ static const struct row same[] = {
 	EXIT(TWO_32 + 10, 3),
 	EXIT(MOST, 3),
 
+	/* process: number */
+	COLLECT(0, 3),
+	COLLECT(11, 3),
+	COLLECT(10, 3),
+	COLLECT(20, 3),
+	COLLECT(SS_LAST_PROCESS, 3),
+	COLLECT(SS_LAST_PROCESS + 1, 3),
+	COLLECT(MOST, 3),
+
 	/* process, pages: number, group without room, cgroups consulted */
 	CHARGE(0, 1, 3, NONE, 0),
 	CHARGE(TWO_8 + 20, 1, 3, NONE, 0),
@@ -532,6 +557,10 @@ static const struct row changing[] = {
 #define CROWD (SS_LAST_GROUP - 1)
 #define ABOVE (SS_LAST_GROUP - 2)
 #define LISTING { listing, 4013 }
+#define LAST_PATH "0::/239/240/241/242/243/244/245/246/247/248/249/250/251/252/253/254"
+
+/* What a zombie's membership line has after the path, once its group was removed. */
+#define DELETED " (deleted)\n"
 
 static char listing[SS_LONGEST_REPLY + 1];
 
@@ -549,6 +578,8 @@ static const struct row last_same[] = {
 	FORK(SS_LAST_PROCESS, SS_LAST_PROCESS + 1, 22, NONE, 0),
 	FORK(1, SS_LAST_PROCESS, 17, NONE, 0),
 	EXIT(SS_LAST_PROCESS + 1, 3),
+	COLLECT(SS_LAST_PROCESS, 3),
+	COLLECT(SS_LAST_PROCESS + 1, 3),
 	CHARGE(SS_LAST_PROCESS + 1, 1, 3, NONE, 0),
 	CHARGE(SS_LAST_PROCESS, 2000, 12, 239, 16),
 	RELEASE(SS_LAST_GROUP, 2, 34),
@@ -560,7 +591,7 @@ static const struct row last_same[] = {
 	READ(SS_LAST_GROUP, T("memory.current"), 5, 0, T("4096\n")),
 	MEMBERSHIP(SS_LAST_PROCESS + 1, 68, 3, T("")),
 	MEMBERSHIP(SS_LAST_PROCESS, 67, 28, T("")),
-	MEMBERSHIP(SS_LAST_PROCESS, 68, 0, T("0::/239/240/241/242/243/244/245/246/247/248/249/250/251/252/253/254\n")),
+	MEMBERSHIP(SS_LAST_PROCESS, 68, 0, T(LAST_PATH "\n")),
 };
 
 static const struct row last_changing[] = {
@@ -573,6 +604,170 @@ static const struct row last_changing[] = {
 	EXIT(SS_LAST_PROCESS, 0),
 	CHARGE(SS_LAST_PROCESS, 1999, 0, NONE, 17),
 	RELEASE(SS_LAST_GROUP, 1, 0),
+};
+
+/* The same two lists when all has ended. The numbers are taken, but that of the group without processes. */
+static const struct row ended_same[] = {
+	MAKE(0, 0, 239, 17),
+	MAKE(NOBODY, 0, CROWD, 17),
+	MAKE(0, 239, 1, 2),
+	MAKE(0, CROWD, 239, 2),
+	REMOVE(0, CROWD, 2),
+	REMOVE(0, SS_LAST_GROUP, 2),
+	PROCS(0, 0, T("1"), 3),
+	PROCS(0, 0, T("1024"), 3),
+	ADMIT(1, 0, 17),
+	ADMIT(SS_LAST_PROCESS, 0, 17),
+	ADMIT(SS_LAST_PROCESS + 1, 0, 22),
+	FORK(SS_LAST_PROCESS, 1, 3, NONE, 0),
+	EXIT(SS_LAST_PROCESS, 3),
+	COLLECT(0, 3),
+	COLLECT(SS_LAST_PROCESS + 1, 3),
+	COLLECT(SS_LAST_PROCESS + 2, 3),
+	COLLECT(TWO_16 + 1, 3),
+	COLLECT(TWO_32 + 1, 3),
+	COLLECT(MOST, 3),
+	CHARGE(SS_LAST_PROCESS, 1, 3, NONE, 0),
+	RELEASE(239, 1, 2),
+	READ(239, T("pids.current"), SS_LONGEST_REPLY, 2, T("")),
+	READ(CROWD, T("cgroup.procs"), SS_LONGEST_REPLY, 2, T("")),
+	READ(0, T("cgroup.procs"), 0, 0, T("")),
+	MEMBERSHIP(SS_LAST_PROCESS + 1, 78, 3, T("")),
+	MEMBERSHIP(SS_LAST_PROCESS, 0, 28, T("")),
+	MEMBERSHIP(SS_LAST_PROCESS, 68, 28, T("")),
+	MEMBERSHIP(SS_LAST_PROCESS, 77, 28, T("")),
+	MEMBERSHIP(SS_LAST_PROCESS, 78, 0, T(LAST_PATH DELETED)),
+	MEMBERSHIP(1, SS_LONGEST_REPLY, 0, T(LAST_PATH DELETED)),
+};
+
+static const struct row ended_changing[] = {
+	MAKE(0, 0, SS_LAST_GROUP, 0),
+	CONTROL(0, 0, T("-cpu -io -memory -pids"), 0),
+	COLLECT(1, 0),
+	COLLECT(SS_LAST_PROCESS, 0),
+	RELEASE(0, 1, 0),
+};
+
+/* And those of the scene with zombies beside the live. */
+static const struct row zombies_same[] = {
+	MAKE(0, 0, TWO_8 + 216, 22),
+	MAKE(0, 201, 202, 2),
+	MAKE(0, 216, 201, 2),
+	MAKE(0, 5, 8, 2),
+	MAKE(NOBODY, 6, 5, 2),
+	MAKE(0, 0, 201, 17),
+	MAKE(0, 0, 208, 17),
+	MAKE(0, 0, 216, 17),
+	MAKE(0, 4, 5, 17),
+	MAKE(0, 4, 6, 17),
+	MAKE(0, 0, 4, 17),
+	MAKE(NOBODY, 0, 216, 17),
+	MAKE(NOBODY, 0, 7, 13),
+	REMOVE(0, 201, 2),
+	REMOVE(0, 216, 2),
+	REMOVE(NOBODY, 6, 2),
+	REMOVE(0, 7, 2),
+	REMOVE(1000, 2, 13),
+	REMOVE(0, 1, 16),
+	HAND_OVER(0, 216, 1000, 2),
+	HAND_OVER(NOBODY, 5, NOBODY, 2),
+	PROCS(0, 216, T("10"), 2),
+	PROCS(0, 6, T("14"), 2),
+	PROCS(NOBODY, 2, T("11"), 13),
+	PROCS(0, 0, T("1"), 3),
+	PROCS(0, 2, T("11"), 3),
+	PROCS(0, 2, T("12"), 3),
+	PROCS(0, 0, T("14"), 3),
+	PROCS(0, 0, T("15"), 3),
+	PROCS(0, 0, T("30"), 3),
+	PROCS(1000, 1, T("11"), 3),
+	CONTROL(0, 201, T("-cpu"), 2),
+	CONTROL(NOBODY, 5, T("x"), 2),
+	CONTROL(0, 1, T("+cpu"), 16),
+	SETTING(0, 201, T("cpu.weight"), T("1"), 2),
+	SETTING(NOBODY, 6, T("io.max"), NO_BYTE_OF("8:16"), 2),
+	ADMIT(1, 0, 17),
+	ADMIT(11, 0, 17),
+	ADMIT(14, NOBODY, 17),
+	ADMIT(30, 0, 17),
+	FORK(1, 15, 3, NONE, 0),
+	FORK(11, 15, 3, NONE, 0),
+	FORK(30, 0, 3, NONE, 0),
+	FORK(30, 30, 3, NONE, 0),
+	FORK(15, 15, 3, NONE, 0),
+	FORK(20, 1, 17, NONE, 0),
+	FORK(20, 14, 17, NONE, 0),
+	FORK(20, 30, 17, NONE, 0),
+	FORK(16, 11, 17, NONE, 0),
+	FORK(16, 15, 11, 3, 1),
+	EXIT(1, 3),
+	EXIT(11, 3),
+	EXIT(15, 3),
+	EXIT(30, 3),
+	COLLECT(0, 3),
+	COLLECT(10, 3),
+	COLLECT(15, 3),
+	COLLECT(20, 3),
+	COLLECT(TWO_8 + 11, 3),
+	COLLECT(SS_LAST_PROCESS, 3),
+	COLLECT(SS_LAST_PROCESS + 1, 3),
+	COLLECT(SS_LAST_PROCESS + 11, 3),
+	COLLECT(TWO_16 + 11, 3),
+	COLLECT(TWO_32 + 11, 3),
+	COLLECT(MOST, 3),
+	CHARGE(1, 1, 3, NONE, 0),
+	CHARGE(11, 0, 3, NONE, 0),
+	CHARGE(30, 1, 3, NONE, 0),
+	RELEASE(216, 0, 22),
+	RELEASE(216, 1, 2),
+	READ(216, T("cgroup.procs"), 0, 2, T("")),
+	READ(201, T("cgroup.events"), SS_LONGEST_REPLY, 2, T("")),
+	READ(6, T("pids.current"), SS_LONGEST_REPLY, 2, T("")),
+	READ(0, T("cgroup.procs"), 3, 0, T("20\n")),
+	READ(1, T("cgroup.procs"), 3, 0, T("10\n")),
+	READ(1, T("cgroup.events"), 12, 0, T("populated 1\n")),
+	READ(1, T("pids.current"), 2, 0, T("1\n")),
+	READ(2, T("cgroup.procs"), 0, 0, T("")),
+	READ(2, T("cgroup.events"), 12, 0, T("populated 0\n")),
+	READ(2, T("pids.current"), 2, 0, T("0\n")),
+	READ(4, T("cgroup.events"), 12, 0, T("populated 0\n")),
+	READ(4, T("pids.current"), 2, 0, T("0\n")),
+	MEMBERSHIP(15, SS_LONGEST_REPLY, 3, T("")),
+	MEMBERSHIP(TWO_8 + 11, SS_LONGEST_REPLY, 3, T("")),
+	MEMBERSHIP(TWO_16 + 30, SS_LONGEST_REPLY, 3, T("")),
+	MEMBERSHIP(TWO_32 + 30, 0, 3, T("")),
+	MEMBERSHIP(1, 4, 28, T("")),
+	MEMBERSHIP(1, 5, 0, T("0::/\n")),
+	MEMBERSHIP(11, 5, 28, T("")),
+	MEMBERSHIP(11, 6, 0, T("0::/1\n")),
+	MEMBERSHIP(14, 0, 28, T("")),
+	MEMBERSHIP(14, 10, 28, T("")),
+	MEMBERSHIP(14, 19, 28, T("")),
+	MEMBERSHIP(14, 20, 0, T("0::/4/5/6" DELETED)),
+	MEMBERSHIP(30, 67, 28, T("")),
+	MEMBERSHIP(30, 68, 28, T("")),
+	MEMBERSHIP(30, 77, 28, T("")),
+	MEMBERSHIP(30, 78, 0, T("0::/201/202/203/204/205/206/207/208/209/210/211/212/213/214/215/216" DELETED)),
+};
+
+static const struct row zombies_changing[] = {
+	MAKE(0, 0, 7, 0),
+	MAKE(0, 2, 7, 0),
+	REMOVE(0, 2, 0),
+	REMOVE(0, 4, 0),
+	PROCS(0, 2, T("10"), 0),
+	CONTROL(0, 2, T("+cpu"), 0),
+	ADMIT(15, 0, 0),
+	FORK(10, 15, 0, NONE, 2),
+	FORK(20, 15, 0, NONE, 1),
+	EXIT(10, 0),
+	EXIT(20, 0),
+	COLLECT(1, 0),
+	COLLECT(11, 0),
+	COLLECT(12, 0),
+	COLLECT(13, 0),
+	COLLECT(14, 0),
+	COLLECT(30, 0),
 };
 
 /* What calls are lent, and around it what they are not. */
@@ -649,6 +844,65 @@ static void make_last_scene(void)
 	memset(scene.told, 0xa5, sizeof scene.told);
 }
 
+/* Ends every process of that scene and removes every group. */
+static void end_last_scene(void)
+{
+	uint64_t *tree = scene.tree;
+
+	for (uint64_t process = 1; process <= SS_LAST_PROCESS; process++)
+		ss_exit(tree, ss_p(process));
+	for (uint64_t group = SS_LAST_GROUP; group >= SS_LAST_GROUP - SS_MAX_DEPTH; group--)
+		ss_remove(tree, ss_u(0), ss_g(group));
+}
+
+static void begin_in(uint64_t *tree, uint64_t process, uint64_t group)
+{
+	char line[24];
+
+	snprintf(line, sizeof line, "%d", (int)process);
+	ss_admit(tree, ss_p(process), ss_u(1000));
+	ss_write_procs(tree, ss_u(0), ss_g(group), (const uint8_t *)line, strlen(line));
+}
+
+static void make_zombie_scene(void)
+{
+	static const struct {
+		uint64_t process, group;
+	} ending[] = { { 1, 0 }, { 11, 1 }, { 12, 2 }, { 13, 2 }, { 14, 6 }, { 30, 216 }, { 15, 7 } };
+	static const uint64_t removed[] = { 6, 5, 7 };
+	const uint8_t *all = (const uint8_t *)"+cpu +io +memory +pids";
+	uint64_t *tree = scene.tree;
+
+	memset(&scene, 0xa5, sizeof scene);
+	ss_fresh(tree, 1024);
+	ss_write_subtree_control(tree, ss_u(0), ss_g(0), all, strlen((const char *)all));
+	ss_make(tree, ss_u(0), ss_g(0), ss_g(1));
+	ss_make(tree, ss_u(0), ss_g(0), ss_g(2));
+	ss_make(tree, ss_u(0), ss_g(0), ss_g(3));
+	ss_make(tree, ss_u(0), ss_g(0), ss_g(4));
+	ss_make(tree, ss_u(0), ss_g(4), ss_g(5));
+	ss_make(tree, ss_u(0), ss_g(5), ss_g(6));
+	ss_make(tree, ss_u(0), ss_g(0), ss_g(7));
+	ss_make(tree, ss_u(0), ss_g(0), ss_g(201));
+	for (uint64_t group = 202; group <= 216; group++)
+		ss_make(tree, ss_u(0), ss_g(group - 1), ss_g(group));
+	ss_hand_over(tree, ss_u(0), ss_g(1), ss_u(1000));
+	begin_in(tree, 10, 1);
+	begin_in(tree, 16, 3);
+	ss_admit(tree, ss_p(20), ss_u(2000));
+	for (size_t i = 0; i < COUNT(ending); i++) {
+		begin_in(tree, ending[i].process, ending[i].group);
+		ss_exit(tree, ss_p(ending[i].process));
+	}
+	for (size_t i = 0; i < COUNT(removed); i++)
+		ss_remove(tree, ss_u(0), ss_g(removed[i]));
+	for (uint64_t group = 216; group >= 201; group--)
+		ss_remove(tree, ss_u(0), ss_g(group));
+	ss_collect(tree, ss_p(15));
+	ss_write_setting(tree, ss_u(0), ss_g(1), (const uint8_t *)"pids.max", 8, (const uint8_t *)"2", 1);
+	ss_write_setting(tree, ss_u(0), ss_g(3), (const uint8_t *)"pids.max", 8, (const uint8_t *)"1", 1);
+}
+
 static void differs(const char *shown, int is_null, const char *what)
 {
 	printf("%s%s: %s\n", shown, is_null ? " (NULL)" : "", what);
@@ -691,6 +945,8 @@ static uint32_t answer(const struct row *row, int is_null)
 		return ss_fork(lent.tree, ss_p(row->first), ss_p(row->second), lent.told);
 	case EXIT:
 		return ss_exit(lent.tree, ss_p(row->first));
+	case COLLECT:
+		return ss_collect(lent.tree, ss_p(row->first));
 	case CHARGE:
 		return ss_charge(lent.tree, ss_p(row->first), row->second, lent.told);
 	case RELEASE:
@@ -745,8 +1001,6 @@ static void check(const struct row *row, int changes, int is_null)
 		differs(row->shown, is_null, "memory that it was not lent differs");
 }
 
-#define COUNT(rows) (sizeof(rows) / sizeof(rows)[0])
-
 static void check_all(const struct row *rows, size_t count, int changes)
 {
 	for (size_t i = 0; i < count; i++) {
@@ -795,6 +1049,12 @@ int main(void)
 	make_last_scene();
 	check_all(last_same, COUNT(last_same), 0);
 	check_all(last_changing, COUNT(last_changing), 1);
+	end_last_scene();
+	check_all(ended_same, COUNT(ended_same), 0);
+	check_all(ended_changing, COUNT(ended_changing), 1);
+	make_zombie_scene();
+	check_all(zombies_same, COUNT(zombies_same), 0);
+	check_all(zombies_changing, COUNT(zombies_changing), 1);
 	check_fresh();
 	if (failures > 0) {
 		printf("%d differences in %d calls\n", failures, calls);

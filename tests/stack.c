@@ -3,9 +3,10 @@
  * among them. A call runs on a stack of its own, painted before; what is no longer paint it has used.
  * scripts/measure-stack builds and runs this.
  *
- * A figure is the largest over many inputs: empty, deep, full and wide trees, and on each of them all
- * that can be put together of the numbers, files, lines and buffers below. So every call is accepted
- * and is refused by its checks, walks chains of seventeen cgroups and writes the longest texts.
+ * A figure is the largest over many inputs: empty, deep, full and wide trees, trees of zombies, and on
+ * each of them all that can be put together of the numbers, files, lines and buffers below. So every
+ * call is accepted and is refused by its checks, walks chains of seventeen cgroups and writes the
+ * longest texts.
  */
 #include <stdio.h>
 #include <stdlib.h>
@@ -80,6 +81,7 @@ static struct call {
 	{ "ss_admit", (function *)ss_admit, "TPU", 1, 0, 0, 0 },
 	{ "ss_fork", (function *)ss_fork, "TPPt", 1, 0, 0, 0 },
 	{ "ss_exit", (function *)ss_exit, "TP", 1, 0, 0, 0 },
+	{ "ss_collect", (function *)ss_collect, "TP", 1, 0, 0, 0 },
 	{ "ss_charge", (function *)ss_charge, "TPNt", 1, 0, 0, 0 },
 	{ "ss_release", (function *)ss_release, "TGN", 1, 0, 0, 0 },
 	{ "ss_read", (function *)ss_read, "TGFRt", 1, 0, 0, 0 },
@@ -125,7 +127,7 @@ static const char *const lines[] = {
 	TEN("+memory -memory +pids -pids +cpu -cpu +io -io "),
 };
 
-static uint64_t trees[5][SS_TREE_WORDS];
+static uint64_t trees[8][SS_TREE_WORDS];
 static uint64_t tree[SS_TREE_WORDS], told[2];
 static uint8_t reply[SS_LONGEST_REPLY];
 
@@ -264,9 +266,24 @@ static void make_deep(uint64_t *t, uint64_t first, int step, uint64_t count, uin
 		must(ss_charge(t, ss_p(1), SS_MAX_PAGES, told));
 }
 
+/* Ends so many processes of a deep tree, from the first on. */
+static void end(uint64_t *t, uint64_t count)
+{
+	for (uint64_t process = 1; process <= count; process++)
+		must(ss_exit(t, ss_p(process)));
+}
+
+/* Removes all cgroups of a deep tree that was numbered upwards, the last first. */
+static void remove_all(uint64_t *t, uint64_t last)
+{
+	for (uint64_t i = 0; i < SS_MAX_DEPTH; i++)
+		must(ss_remove(t, ss_u(0), ss_g(last - i)));
+}
+
 static void make_trees(void)
 {
 	uint64_t *deep = trees[1], *full = trees[2], *tight = trees[3], *wide = trees[4];
+	uint64_t *ended = trees[5], *last_zombie = trees[6], *half = trees[7];
 
 	ss_fresh(trees[0], 1024);
 	/* Room for a process and a charge more, and a second leaf to move to, with room for a device. */
@@ -278,6 +295,16 @@ static void make_trees(void)
 	/* No room in the last but one that is asked. */
 	make_deep(tight, FIRST_OF_LAST, 1, SS_LAST_PROCESS - 1, 1);
 	set_all(tight, ss_g(FIRST_OF_LAST), "0", "0");
+	/* All cgroups are removed around zombies: all that there can be, and one, whose collection frees every number. */
+	make_deep(ended, FIRST_OF_LAST, 1, SS_LAST_PROCESS, 1);
+	end(ended, SS_LAST_PROCESS);
+	remove_all(ended, SS_LAST_GROUP);
+	make_deep(last_zombie, FIRST_OF_LAST, 1, 1, 1);
+	end(last_zombie, 1);
+	remove_all(last_zombie, SS_LAST_GROUP);
+	/* Zombies beside live processes, in a live cgroup. */
+	make_deep(half, 1, 1, SS_LAST_PROCESS - 1, 1);
+	end(half, SS_LAST_PROCESS / 2);
 	ss_fresh(wide, 1024);
 	must(ss_write_subtree_control(wide, ss_u(0), ss_g(0), BYTES("+cpu +io +memory +pids")));
 	for (uint64_t group = 1; group <= SS_LAST_GROUP; group++) {

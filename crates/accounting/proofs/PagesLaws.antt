@@ -18,13 +18,13 @@ use Rattle.model.proofs.AmountLaws.{usage-after-adjust, population-same, own-wi
 use Rattle.tree.specs.Layout.{view, sumIn}
 use Rattle.tree.specs.Changes.{Wrote, Adjusted}
 use Rattle.tree.specs.Counters.{Adjustable}
-use Rattle.tree.specs.Kept.{countOf, Settled, Kept, KeptAt}
+use Rattle.tree.specs.Kept.{countIn, Settled, Kept, KeptAt}
 use Rattle.tree.specs.Calling.{Applied}
 use Rattle.tree.specs.declared.sum.Counter.{Counter}
-use Rattle.tree.specs.declared.sum.Counter.the-variants.{Of, Children, Members}
+use Rattle.tree.specs.declared.sum.Counter.the-variants.{Of, Children, Members, Zombies}
 use Rattle.tree.proofs.KeptLaws.{own-small, adjustable}
 use Rattle.tree.proofs.AdjustLaws.{counters-apart}
-use Rattle.tree.proofs.CountLaws.{children-same}
+use Rattle.tree.proofs.CountLaws.{children-same, zombies-same}
 use Rattle.tree.proofs.RoomCallLaws.{sum-after-adjust}
 use Rattle.tree.proofs.CallLaws.{applied-as}
 use Rattle.accounting.specs.Pages.{pagesSet, OwnAdjustable}
@@ -68,7 +68,7 @@ module _ (xs : List ℕ) (g n m : ℕ) (p : PagesAdjustable xs g n m) where
         → (a : ℕ) → F (pagesSet (view xs) g n m .group a) ≡ F (view xs .group a)
     kept-by F e = upd-keeps F (view xs .group) g _ e
 
-    sums-after : (c : Counter) (a : ℕ) → sumIn zs c a ≡ countOf (cores (pagesSet (view xs) g n m)) (places (view xs)) c a
+    sums-after : (c : Counter) (a : ℕ) → sumIn zs c a ≡ countIn (pagesSet (view xs) g n m) c a
     sums-after (Of Pages) a =
         let s : ℕ → Core = cores (view xs) in
         let after : ℕ → Core = upd s g (withOwn (s g .own + n - m) (s g)) in
@@ -86,6 +86,10 @@ module _ (xs : List ℕ) (g n m : ℕ) (p : PagesAdjustable xs g n m) where
         ∙ sym (population-same (cores (view xs)) (cores (pagesSet (view xs) g n m)) (places (view xs)) (kept-by (λ x. x .core .parent) refl) a)
     sums-after Members a =
         wrote .sums Members a ∙ adjusted .other Members (counters-apart Members (Of Pages) (λ e. omega arith)) a ∙ p .home .kept .sums Members a
+    sums-after Zombies a =
+        wrote .sums Zombies a ∙ adjusted .other Zombies (counters-apart Zombies (Of Pages) (λ e. omega arith)) a
+        ∙ p .home .kept .sums Zombies a
+        ∙ sym (zombies-same (cores (view xs)) (cores (pagesSet (view xs) g n m)) (view xs .past) (kept-by (λ x. x .core .parent) refl) (kept-by (λ x. x .core .live) refl) a)
     sums-after Children a =
         wrote .sums Children a ∙ adjusted .other Children (counters-apart Children (Of Pages) (λ e. omega arith)) a
         ∙ p .home .kept .sums Children a

@@ -113,7 +113,7 @@ module _ (xs : List ℕ) (k : Kept xs) (user g : ℕ) (file line : List ℕ) (va
           live = part-after-setting (view xs) g o (λ x. x .core .live) (λ _ _. refl);
           own = part-after-setting (view xs) g o (λ x. x .core .own) (λ _ _. refl);
         })
-        refl)
+        refl refl)
         (sym v)
 
 -- ---- a control line
@@ -144,5 +144,5 @@ module _ (xs : List ℕ) (k : Kept xs) (user g : ℕ) (line : List ℕ) (v : ver
         live = λ h. ap (λ f. f h) (part-kept (view xs) g new left (λ x. x .core .live) (λ _ _. refl) refl);
         own = λ h. ap (λ f. f h) (part-kept (view xs) g new left (λ x. x .core .own) (λ _ _. refl) refl);
       })
-      refl)
+      refl refl)
       (sym v)

@@ -1,27 +1,20 @@
 -- Stores in one group: none, one after another, and the same store by another name. Assumes nothing.
 use Prim.Native.Nat.{ℕ}
 use mathlib.Core.List.{List}
-use mathlib.Core.Path.{_≡_, refl, ap, sym, _∙_, fun-ext, subst}
+use mathlib.Core.Path.{_≡_, refl, ap, sym, _∙_, subst}
 use lib.ListN.{length}
 use Rattle.model.specs.Functions.{upd}
 use Rattle.model.specs.Tree.{Tree, Group, atGroup}
-use Rattle.model.proofs.FunctionLaws.{whether, upd-same, upd-other, upd-id}
+use Rattle.model.proofs.FunctionLaws.{upd-same, upd-id, upd-again}
 use Rattle.tree.specs.Layout.{treeWords, view}
 use Rattle.tree.specs.Changes.{Wrote}
 use Rattle.control.specs.Stores.{withGroups, changedAt}
-
-upd-twice : {A : Type 0} (f : ℕ → A) (i : ℕ) (v w : A) → upd (upd f i v) i w ≡ upd f i w
-upd-twice f i v w =
-    fun-ext
-    (λ j. whether j i
-    (λ d. rw d (upd-same (upd f i v) i w ∙ sym (upd-same f i w)))
-    (λ ne. upd-other (upd f i v) i w j ne ∙ upd-other f i v j ne ∙ sym (upd-other f i w j ne)))
 
 pub wrote-as : {xs ys : List ℕ} {t u : Tree} → t ≡ u → Wrote xs ys t → Wrote xs ys u
 wrote-as {xs} {ys} e w = subst (λ (t : Tree). Wrote xs ys t) e w
 
 pub same-groups : (t : Tree) {f h : ℕ → Group} → ((k : ℕ) → f k ≡ h k) → withGroups t f ≡ withGroups t h
-same-groups t e = λ i. record { machine = t .machine; group = λ k. e k i; process = t .process }
+same-groups t e = λ i. record { machine = t .machine; group = λ k. e k i; process = t .process; past = t .past }
 
 module _ (xs : List ℕ) (k : ℕ) where
   -- what a group becomes, found another way
@@ -40,7 +33,7 @@ module _ (xs : List ℕ) (k : ℕ) where
       → Wrote ys zs (changedAt (view ys) k f) → Wrote xs zs (atGroup (view xs) k (f v))
   wrote-then ys zs v f p q =
       let twice : upd (upd (view xs .group) k v) k (f (upd (view xs .group) k v k)) ≡ upd (view xs .group) k (f v) =
-      ap (λ w. upd (upd (view xs .group) k v) k (f w)) (upd-same (view xs .group) k v) ∙ upd-twice (view xs .group) k v (f v) in
+      ap (λ w. upd (upd (view xs .group) k v) k (f w)) (upd-same (view xs .group) k v) ∙ upd-again (view xs .group) k v (f v) in
       record {
         long = q .long;
         tree = q .tree ∙ ap (λ (t : Tree). changedAt t k f) (p .tree) ∙ ap (withGroups (view xs)) twice;

@@ -15,7 +15,7 @@ use Rattle.tree.specs.Layout.{treeWords, view}
 
 -- other groups, and all else as in t
 abbrev pub withGroups : Tree → (ℕ → Group) → Tree
-withGroups t f = record { machine = t .machine; group = f; process = t .process }
+withGroups t f = record { machine = t .machine; group = f; process = t .process; past = t .past }
 
 -- one group changed by f
 abbrev pub changedAt : Tree → ℕ → (Group → Group) → Tree

@@ -11,7 +11,7 @@ use lib.Seq.{take-append-seam}
 use denote.Ref.{now}
 use Rattle.model.specs.Functions.{passes, mapped, orElse}
 use Rattle.model.specs.Checks.{errnoNumber, answerNumber, Pass}
-use Rattle.model.specs.Tree.{Tree, lives, parents}
+use Rattle.model.specs.Tree.{Tree, isLive, lives, parents, places}
 use Rattle.model.specs.Hierarchy.{chain, on, inside, factsOf}
 use Rattle.model.specs.Text.{linesOf, body}
 use Rattle.model.specs.Names.{settingName, fileNamed}
@@ -19,10 +19,13 @@ use Rattle.model.specs.Control.{firstBadWord}
 use Rattle.model.specs.Settings.{settingController}
 use Rattle.model.specs.Rooms.{shortage}
 use Rattle.model.specs.Rules.{mayWrite, processGroup}
-use Rattle.model.specs.Files.{isPresent, contents}
-use Rattle.model.specs.Calls.{Call, read, fileText, checks, verdict}
+use Rattle.model.specs.Files.{isPresent, contents, membershipLine}
+use Rattle.model.specs.Calls.{Call, exit, read, membership, fileText, checks, verdict}
+use Rattle.model.specs.Effects.{step, run}
 use Rattle.model.specs.Replies.{Asks, reply}
 use Rattle.model.specs.Book.{Entry}
+use Rattle.model.specs.Lists.{Never, Ever}
+use Rattle.model.specs.ZombieRules.{Removes, Collects, LineKept}
 use Rattle.model.specs.Containment.{caller, OwnsInside, NoneAcross, GivesOutside}
 use Rattle.model.specs.Demands.{StoppedAt, LimitLeft}
 use Rattle.model.specs.Demands as D
@@ -42,8 +45,9 @@ use Rattle.tree.specs.Calling.{Answered}
 use Rattle.tree.proofs.AnsweredLaws.{answered-number, answered-done, answered-effect}
 use Rattle.tree.proofs.WalkLaws.{member-at}
 use Rattle.shootspiral.specs.Interface.{groupWord, roomWords, Told}
-use Rattle.demands.specs.Runs.{Runs, start, next, Along}
-use Rattle.demands.specs.Demand2.{Exactly, RoomTold, Restores, ShownBack, Demand2}
+use Rattle.demands.specs.Runs.{Runs, start, next, Along, callsOf}
+use Rattle.demands.specs.Texts.{FindsText}
+use Rattle.demands.specs.Demand2.{Exactly, RoomTold, Restores, ShownBack, ZombieFinds, Demand2}
 use Rattle.demands.proofs.Runs.{followed}
 use Rattle.demands.proofs.Texts.{delivered-file, delivered-line}
 
@@ -138,6 +142,36 @@ module _ {xs : List ℕ} {n k : ℕ} {buffer bytes : List ℕ} (g : ℕ) (s : Se
         short = back .short g s read-lives;
       })
 
+-- The line of a zombie: the run after its exit is one of the definitions.
+module _ {xs ys zs buffer told bytes : List ℕ} {es : List Entry} {n k : ℕ} (p : ℕ) (kept : Kept xs) (a : Answered xs ys (exit p) n) (z : n ≡ 0)
+    (r : Runs ys es zs) (never : Never (Collects p) (view ys) (callsOf es)) (m : Answered zs zs (membership p buffer) k) (y : k ≡ 0)
+    (t : Told (reply (view zs) (membership p buffer)) told bytes) where
+  abbrev exited : Tree
+  exited = step (view xs) (exit p)
+
+  lived : isLive (places (view xs) p) ≡ true
+  unfolding checks Pass
+  lived = passed (view xs) (exit p) (answered-done a z) .0
+
+  line : LineKept (view xs) p (processGroup (view xs) p) (callsOf es)
+  line =
+      demands .second .zombieLine (view xs) (kept .formed) p (callsOf es) lived
+      (subst (λ (u : Tree). Never (Collects p) u (callsOf es)) (a .tree) never)
+
+  come-to : view zs ≡ run exited (callsOf es)
+  come-to = followed r .tree ∙ ap (λ (u : Tree). run u (callsOf es)) (a .tree)
+
+  found : (text : List ℕ) → membershipLine (run exited (callsOf es)) p ≡ text → FindsText text buffer told bytes
+  found text e =
+      subst (λ (x : List ℕ). FindsText x buffer told bytes) (ap (λ (u : Tree). membershipLine u p) come-to ∙ e) (delivered-line p m y t)
+
+  zombie-finds : ZombieFinds (view xs) p (view ys) (callsOf es) buffer told bytes
+  zombie-finds =
+      record {
+        stays = λ h. found _ (line .stays (subst (λ (u : Tree). Never (Removes (processGroup (view xs) p)) u (callsOf es)) (a .tree) h));
+        deleted = λ h. found _ (line .deleted (subst (λ (u : Tree). Ever (Removes (processGroup (view xs) p)) u (callsOf es)) (a .tree) h));
+      }
+
 -- Containment along a run.
 contained-run : {xs ys : List ℕ} {es : List Entry} (user d : ℕ) → user ≢ 0 → (r : Runs xs es ys) → OwnsInside (view xs) user d
     → Along (λ t c u. GivesOutside user d t c → ⊥) r
@@ -172,6 +206,11 @@ demand-2-of-the-code =
       standing = delivered-line;
       listingFits = λ {xs} {buffer = buffer} g k a h e. demands .second .lengths (view xs) (k .formed) .listingFits g buffer h (sym (a .answer) ∙ e);
       lineFits = λ {xs} {buffer = buffer} p k a h e. demands .second .lengths (view xs) (k .formed) .lineFits p buffer h (sym (a .answer) ∙ e);
+      zombieLine = zombie-finds;
+      taken = λ {xs} user parent new k a b g.
+          answered-number a ∙ ap answerNumber (demands .second .taken (view xs) (k .formed) .refused user parent new b g);
+      untaken = λ {xs} user parent new k a g.
+          answered-number a ∙ ap answerNumber (demands .second .taken (view xs) (k .formed) .decided user parent new g);
       back = λ user g s k a z told may. shown-back g s k a z told user may;
       contained = contained-run;
       fresh = λ {m} {xs} z user d nz.

@@ -16,7 +16,7 @@ use Rattle.model.specs.Replies.{reply}
 use Rattle.model.specs.Book.{Book, inBook, Entry, freshBook, bookOf, fed}
 use Rattle.model.specs.Lists.{log}
 use Rattle.model.specs.Marks.{AtLastWrite, MarkIs}
-use Rattle.model.specs.Totals.{Balanced}
+use Rattle.model.specs.Totals.{Balanced, EndedOnce}
 use Rattle.model.specs.DeviceBook.{noAccount, accountOf, accountFed, Accounted}
 use Rattle.model.specs.DeviceReplies.{DeviceReading}
 use Rattle.model.specs.Demands.{Alike, Bounded, NoneOver}
@@ -101,6 +101,7 @@ module _ {xs ys : List ℕ} {es : List Entry} (b : Book) (f : Followed xs es ys)
             (sym (ap₂ (λ (es : List Entry) (k : ℕ). es ++ (record { call = c; number = k } ∷ [])) (g .entries) (g .number) ∙ log-more (view xs) (g .earlier) c)) in
             subst (λ (x : Book). NoneOver q x (groupOf (x .place p))) more (d .accepted q p c (g .earlier) (g .later) k (g .calls) (sym (g .number)));
         balanced = subst₂ (λ (l : List Entry) (u : Tree). Balanced (view xs) l u) (sym (f .entries)) (sym (f .tree)) (d .balanced);
+        ended = subst₂ (λ (l : List Entry) (u : Tree). EndedOnce (view xs) l u) (sym (f .entries)) (sym (f .tree)) (d .ended);
         devices =
             subst₂ (λ (l : List Entry) (u : Tree). Accounted u (accountFed b (accountOf (view xs)) l)) (sym (f .entries)) (sym (f .tree)) (d .devices);
         deviceReading =

@@ -1,9 +1,9 @@
 -- Demand 2 of the code, from the contracts alone: exactly when; what charge and fork tell; when a device is a fifth; what a line
--- of a limit leaves; the question about a control line; texts delivered, how long a buffer has to be for two of them, and what is
--- written back; containment. Assumes nothing.
+-- of a limit leaves; the question about a control line; texts delivered, how long a buffer has to be for two of them, the line of a
+-- zombie, and what is written back; when a number is taken; containment. Assumes nothing.
 use Prim.Native.Nat.{ℕ, suc, _+_, _≤_}
-use mathlib.Core.Bool.{true}
-use mathlib.Core.List.{List, [], _∷_}
+use mathlib.Core.Bool.{true, false}
+use mathlib.Core.List.{List, [], _∷_, _++_}
 use mathlib.Core.Logic.{_≢_}
 use mathlib.Core.Option.{none, some}
 use mathlib.Core.Path.{_≡_}
@@ -11,21 +11,25 @@ use lib.ListN.{length, take}
 use denote.Ref.{RefT, ptr, now}
 use Rattle.model.specs.Functions.{All}
 use Rattle.model.specs.Sizes.{longestListing, longestMembership, longestShown}
-use Rattle.model.specs.Checks.{errnoNumber, answerNumber, Says}
+use Rattle.model.specs.Checks.{errnoNumber, answerNumber, first, Pass, Says}
 use Rattle.model.specs.Tree.{Tree, lives, parents, depths}
 use Rattle.model.specs.Hierarchy.{factsOf}
-use Rattle.model.specs.Text.{linesOf, lineWords, oneWord, body}
+use Rattle.model.specs.Zombies.{groupTaken}
+use Rattle.model.specs.Text.{ended, linesOf, lineWords, oneWord, body}
+use Rattle.model.specs.Text as T
 use Rattle.model.specs.Names.{settingName, fileName}
 use Rattle.model.specs.Control.{Part, firstBadWord}
 use Rattle.model.specs.Figures.{limitWord}
 use Rattle.model.specs.Words.{cut, FirstBad}
 use Rattle.model.specs.Rooms.{shortage}
 use Rattle.model.specs.Rules.{mayWrite, processGroup}
-use Rattle.model.specs.Files.{membershipLine}
-use Rattle.model.specs.Calls.{Call, writeSetting, read, membership, fileText, checks}
+use Rattle.model.specs.Files.{pathText, membershipLine}
+use Rattle.model.specs.Calls.{Call, make, writeSetting, exit, read, membership, fileText, checks}
 use Rattle.model.specs.Effects.{effect}
 use Rattle.model.specs.Replies.{Asks, reply}
 use Rattle.model.specs.Book.{Entry}
+use Rattle.model.specs.Lists.{Never, Ever}
+use Rattle.model.specs.ZombieRules.{Removes, Collects, beforeTaken, afterTaken}
 use Rattle.model.specs.Containment.{caller, OwnsInside, NoneAcross, GivesOutside}
 use Rattle.model.specs.DeviceReplies.{FifthWrite}
 use Rattle.model.specs.Demands.{StoppedAt, LimitLeft}
@@ -40,7 +44,7 @@ use Rattle.tree.specs.Kept.{Kept, Fresh}
 use Rattle.tree.specs.Calling.{Answered}
 use Rattle.lines.specs.Control.{IsPart}
 use Rattle.shootspiral.specs.Interface.{groupWord, roomWords, partWords, Told}
-use Rattle.demands.specs.Runs.{Runs, Along}
+use Rattle.demands.specs.Runs.{Runs, Along, callsOf}
 use Rattle.demands.specs.Texts.{FindsText}
 
 -- "Calls are turned away exactly when a listed rule .. says so, and otherwise do exactly what the rule says."
@@ -77,6 +81,12 @@ pub record ShownBack (xs : List ℕ) (user g : ℕ) (s : Setting) (text : List �
   pub one : s ≢ IoMax → linesOf text ≡ text ∷ []
   pub short : All (λ line. length line ≤ longestShown) (linesOf text)
 
+-- what a reader finds of process p, which ended in tree t, after calls on the tree after its exit: by whether its group was removed
+pub record ZombieFinds (t : Tree) (p : ℕ) (u : Tree) (cs : List Call) (buffer told bytes : List ℕ) : Type 0 where
+  pub stays : Never (Removes (processGroup t p)) u cs → FindsText (membershipLine t p) buffer told bytes
+  pub deleted : Ever (Removes (processGroup t p)) u cs
+      → FindsText (ended (pathText t (processGroup t p) ++ T.bytes " (deleted)")) buffer told bytes
+
 pub record Demand2 : Type 0 where
   pub exactly : {xs ys : List ℕ} {c : Call} {n : ℕ} → Answered xs ys c n → Exactly xs ys c n
   pub room : {xs ys : List ℕ} {c : Call} {k : ℕ} {told : List ℕ} (r : Resource) (n p : ℕ) → Asks r n p c → Kept xs
@@ -102,6 +112,17 @@ pub record Demand2 : Type 0 where
       → longestListing ≤ length buffer → n ≢ 28
   pub lineFits : {xs ys buffer : List ℕ} {n : ℕ} (p : ℕ) → Kept xs → Answered xs ys (membership p buffer) n
       → longestMembership ≤ length buffer → n ≢ 28
+  -- order 5: after an accepted exit, wherever a run without its collect has come to, what a membership call delivers is the line as it
+  -- was before the exit, and ends in " (deleted)" exactly where the group was removed since
+  pub zombieLine : {xs ys zs buffer told bytes : List ℕ} {es : List Entry} {n k : ℕ} (p : ℕ) → Kept xs → Answered xs ys (exit p) n → n ≡ 0
+      → Runs ys es zs → Never (Collects p) (view ys) (callsOf es) → Answered zs zs (membership p buffer) k → k ≡ 0
+      → Told (reply (view zs) (membership p buffer)) told bytes → ZombieFinds (view xs) p (view ys) (callsOf es) buffer told bytes
+  -- and make answers 17 where its number is taken and the checks before pass; where it is not, the other checks alone decide
+  pub taken : {xs ys : List ℕ} {n : ℕ} (user parent new : ℕ) → Kept xs → Answered xs ys (make user parent new) n
+      → Pass (beforeTaken (view xs) user parent new) → groupTaken (view xs) new ≡ true → n ≡ 17
+  pub untaken : {xs ys : List ℕ} {n : ℕ} (user parent new : ℕ) → Kept xs → Answered xs ys (make user parent new) n
+      → groupTaken (view xs) new ≡ false
+      → n ≡ answerNumber (first (beforeTaken (view xs) user parent new ++ afterTaken (view xs) user parent new))
   -- "What a settings file shows can be written back by whoever may write it, and changes nothing": the first k bytes of what a
   -- read delivered, on the words that it read
   pub back : {xs : List ℕ} {n k : ℕ} {buffer bytes : List ℕ} (user g : ℕ) (s : Setting) → Kept xs

@@ -10,7 +10,7 @@ use Rattle.model.specs.Calls.{Call, read}
 use Rattle.model.specs.Replies.{reply}
 use Rattle.model.specs.Book.{Book, inBook, Entry, freshBook, bookOf, fed}
 use Rattle.model.specs.Marks.{AtLastWrite, MarkIs}
-use Rattle.model.specs.Totals.{Balanced}
+use Rattle.model.specs.Totals.{Balanced, EndedOnce}
 use Rattle.model.specs.DeviceBook.{noAccount, accountOf, accountFed, Accounted}
 use Rattle.model.specs.DeviceReplies.{DeviceReading}
 use Rattle.model.specs.Demands.{Alike, Bounded, Adds, NoneOver}
@@ -27,8 +27,8 @@ use Rattle.demands.specs.Texts.{FindsText}
 
 -- The words xs and the book b before the run, its calls with the numbers answered, the words ys after it. They keep the invariant and
 -- stand alike with the book, and a read of memory.current or pids.current delivers the book's figure. Every page limit and its mark are of
--- the last write, or of the start. Every accepted charge or birth left no group on its way up over its limit. Nothing is lost. io.max has
--- what accepted writes gave, and shows it.
+-- the last write, or of the start. Every accepted charge or birth left no group on its way up over its limit. Nothing is lost, and who
+-- ended was collected or is a zombie. io.max has what accepted writes gave, and shows it.
 pub record Kept3 (xs : List ℕ) (b : Book) (es : List Entry) (ys : List ℕ) : Type 0 where
   pub kept : Kept ys
   pub alike : Alike (view ys) (fed b es)
@@ -41,6 +41,7 @@ pub record Kept3 (xs : List ℕ) (b : Book) (es : List Entry) (ys : List ℕ) : 
       → es ≡ before ++ (record { call = c; number = 0 } ∷ after)
       → NoneOver r (fed b (before ++ (record { call = c; number = 0 } ∷ []))) (groupOf (fed b (before ++ (record { call = c; number = 0 } ∷ [])) .place p))
   pub balanced : Balanced (view xs) es (view ys)
+  pub ended : EndedOnce (view xs) es (view ys)
   pub devices : Accounted (view ys) (accountFed b (accountOf (view xs)) es)
   pub deviceReading : DeviceReading (view ys) (accountFed b (accountOf (view xs)) es)
 

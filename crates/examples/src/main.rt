@@ -9,6 +9,7 @@ mod charges; // P1 to P5, and the groups consulted
 mod settings; // P6 to P8, and order 2
 mod devices; // io.max of order 1
 mod hierarchy; // P9, P10, depths, and the last numbers of order 4
+mod zombies; // order 5
 mod texts; // P11, whole replies, and bad words
 mod slips; // what is right where a slip looks right
 
@@ -50,6 +51,8 @@ fn ordered() {
     settings::odd_bytes();
     heading(b"Order 4: groups 0 to 255, processes 1 to 1024");
     hierarchy::last_numbers();
+    heading(b"Order 5: a process that has ended is a zombie until it is collected");
+    zombies::until_collected();
 }
 
 // The slips that look right, but for the common ancestor, which is P10.

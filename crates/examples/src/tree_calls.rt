@@ -5,6 +5,7 @@ use super::say::fill;
 use shootspiral::number::NO_GROUP;
 use shootspiral::tree_calls::ss_admit;
 use shootspiral::tree_calls::ss_charge;
+use shootspiral::tree_calls::ss_collect;
 use shootspiral::tree_calls::ss_exit;
 use shootspiral::tree_calls::ss_fork;
 use shootspiral::tree_calls::ss_hand_over;
@@ -90,6 +91,14 @@ pub(crate) fn exit(tree: &mut Tree, process: u64)
 {
     fill(b"exit process #", process, 0, 0);
     answer(ss_exit(tree, process));
+}
+
+pub(crate) fn collect(tree: &mut Tree, process: u64)
+    requires { ⌜ Kept (now tree) ⌝ }
+    ensures { λ _. ⌜ Kept (now (tree .exit)) ⌝ }
+{
+    fill(b"collect process #", process, 0, 0);
+    answer(ss_collect(tree, process));
 }
 
 pub(crate) fn charge(tree: &mut Tree, process: u64, pages: u64)

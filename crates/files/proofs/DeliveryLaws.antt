@@ -13,7 +13,8 @@ use borrow.Author.Tests.{le-leb, lt-leb}
 use Rattle.model.specs.Functions.{pick, passes, mapped, orElse}
 use Rattle.model.specs.Sizes.{groups, processes}
 use Rattle.model.specs.Checks.{need, first, barred, lacking, past, met}
-use Rattle.model.specs.Tree.{isLive, lives, places}
+use Rattle.model.specs.Tree.{lives}
+use Rattle.model.specs.Zombies.{processTaken}
 use Rattle.model.specs.Hierarchy.{factsOf}
 use Rattle.model.specs.Names.{fileNamed}
 use Rattle.model.specs.Files.{isPresent, contents, membershipLine, fits}
@@ -28,9 +29,8 @@ use Rattle.model.specs.declared.Setting.{Setting}
 use Rattle.model.specs.declared.Setting.the-variants.{IoMax}
 use Rattle.model.proofs.File.{the-type as file-type}
 use Rattle.model.proofs.Setting.{the-type as setting-type}
-use Rattle.model.proofs.FunctionLaws.{split}
 use Rattle.model.proofs.CheckLaws.{says-first, first-says}
-use Rattle.model.proofs.AmountLaws.{place-live}
+use Rattle.model.proofs.ProcessLaws.{taken-out-of-range}
 use Rattle.text.specs.Write.{Appended, Delivers, delivery}
 use Rattle.tree.specs.Layout.{view}
 use Rattle.tree.specs.Kept.{Kept}
@@ -152,19 +152,15 @@ module _ (xs : List ℕ) (p : ℕ) (old : List ℕ) where
   abbrev Membership : ReadAnswer → List ℕ → Type 0
   Membership r new = Delivering xs (membership p old) r new
 
-  pub membership-dead : isLive (places (view xs) p) ≡ false → Membership (ReadAnswer.Refused Esrch) old
+  pub membership-dead : processTaken (view xs) p ≡ false → Membership (ReadAnswer.Refused Esrch) old
   unfolding verdict checks
   membership-dead d = reading-refused _ _ Esrch (sym (says-first (lacking d)))
 
-  -- a number out of range is not live
+  -- a number out of range is nobody's
   pub membership-no-number : Kept xs → processes ≤ p → Membership (ReadAnswer.Refused Esrch) old
-  membership-no-number k h =
-      membership-dead
-      (split (isLive (places (view xs) p))
-      (λ l. absurd (omega (arith, k .formed .placed .range p _ (place-live (places (view xs) p) l))))
-      (λ d. d))
+  membership-no-number k h = membership-dead (taken-out-of-range (view xs) (k .formed) p h)
 
-  pub membership-delivered : isLive (places (view xs) p) ≡ true → {a b : List ℕ} {k : ℕ}
+  pub membership-delivered : processTaken (view xs) p ≡ true → {a b : List ℕ} {k : ℕ}
       → Appended a 0 (membershipLine (view xs) p) b k → {r : ReadAnswer} {new : List ℕ}
       → Delivers (take k b) old r new → Membership r new
   unfolding verdict checks

@@ -8,7 +8,8 @@ use lib.Dec.{eqb}
 use lib.ListN.{length}
 use Rattle.model.specs.Functions.{pick}
 use Rattle.model.specs.Sizes.{deepest, longestMembership, mostDevices, longestShown}
-use Rattle.model.specs.Tree.{Tree, isLive, parents, depths, places}
+use Rattle.model.specs.Tree.{Tree}
+use Rattle.model.specs.Zombies.{there, pathParents, pathDepths, processTaken}
 use Rattle.model.specs.Text.{bytes, newline, space, ended}
 use Rattle.model.specs.Settings.{limitText, shownDevice, valueText}
 use Rattle.model.specs.Hierarchy.{factsOf}
@@ -35,6 +36,10 @@ longestOther = 128
 abbrev pub longestPath : ℕ
 longestPath = deepest * 4
 
+-- nor is the mark of a removed group
+abbrev pub longestMark : ℕ
+longestMark = 10
+
 -- every file but the two that can be longer
 pub record Short (file : File) : Type 0 where
   pub not-procs : file ≢ File.Procs
@@ -53,21 +58,26 @@ Renders xs g file old new k = Appended old 0 (contents (factsOf (view xs)) g fil
 abbrev pub DeliversFile : List ℕ → ℕ → File → List ℕ → ReadAnswer → List ℕ → Type 0
 DeliversFile xs g file old r new = Delivers (contents (factsOf (view xs)) g file) old r new
 
--- a live group so deep, and room for its path
-pub record HasPath (xs : List ℕ) (g deep : ℕ) (out : List ℕ) (at : ℕ) : Type 0 where
-  pub group : KeptAt xs g
-  pub level : deep ≡ depths (view xs) g
-  pub room : at + length (path (parents (view xs)) deep g) ≤ length out
+-- words with a group that is live or was removed
+pub record ThereAt (xs : List ℕ) (g : ℕ) : Type 0 where
+  pub kept : Kept xs
+  pub there : there (view xs) g ≡ true
 
--- a live process, and room for its membership line
+-- such a group so deep, and room for its path
+pub record HasPath (xs : List ℕ) (g deep : ℕ) (out : List ℕ) (at : ℕ) : Type 0 where
+  pub group : ThereAt xs g
+  pub level : deep ≡ pathDepths (view xs) g
+  pub room : at + length (path (pathParents (view xs)) deep g) ≤ length out
+
+-- a live process or a zombie, and room for its membership line
 pub record HasLine (xs : List ℕ) (p : ℕ) (out : List ℕ) : Type 0 where
   pub kept : Kept xs
-  pub live : isLive (places (view xs) p) ≡ true
+  pub taken : processTaken (view xs) p ≡ true
   pub room : longestMembership ≤ length out
 
 -- the path as a membership line shows it
 abbrev pub placePath : Tree → ℕ → List ℕ
-placePath t g = pick (eqb g 0) (bytes "/") (path (parents t) deepest g)
+placePath t g = pick (eqb g 0) (bytes "/") (path (pathParents t) deepest g)
 
 -- what a name adds to a list that has come to a place: nothing if it is not listed, else a space before all but the first
 abbrev pub nameAfter : ℕ → Bool → List ℕ → List ℕ

@@ -32,7 +32,7 @@ use tree::layout::DEEPEST;
 use tree::layout::GROUPS;
 use tree::layout::PROCESSES;
 use tree::layout::Tree;
-use tree::process::is_process;
+use tree::process::is_taken;
 use tree::rule::is_on;
 use tree::setting::controller_of;
 use tree::setting::setting_controller;
@@ -50,8 +50,8 @@ const LONGEST_DEVICES: usize = MOST_DEVICES * LONGEST_SHOWN;
 
 const LONGEST_OTHER: usize = 128;
 
-// The longest membership line: "0::", for each level a number of three digits at most after "/", and a newline.
-const LONGEST_MEMBERSHIP: usize = DEEPEST as usize * 4 + 4;
+// The longest membership line: "0::", for each level a number of three digits at most after "/", " (deleted)", and a newline.
+const LONGEST_MEMBERSHIP: usize = DEEPEST as usize * 4 + 14;
 
 // Whether a group has the file.
 fn is_present(t: &Tree, g: GroupId, file: File) -> bool
@@ -149,7 +149,7 @@ pub fn read(tree: &Tree, group: GroupId, file: &[u8], reply: &mut [u8]) -> ReadA
     read_other(tree, group, found, reply)
 }
 
-// The membership line of a process. 3 not live; 28 the reply shorter than the line. A refusal leaves the reply as it was.
+// The membership line of a process. 3 neither live nor a zombie; 28 the reply shorter than the line. A refusal leaves the reply as it was.
 pub fn membership(tree: &Tree, process: ProcessId, reply: &mut [u8]) -> ReadAnswer
     requires { ⌜ Kept (now tree) ⌝ }
     ensures { λ r. ⌜ Delivering (now (tree .entry)) (membership (process .0) (now (reply .entry))) r (now (reply .exit)) ⌝ }
@@ -157,7 +157,7 @@ pub fn membership(tree: &Tree, process: ProcessId, reply: &mut [u8]) -> ReadAnsw
     if PROCESSES <= process.0 {
         return ReadAnswer::Refused(Errno::Esrch);
     }
-    if !is_process(tree, process) {
+    if !is_taken(tree, process) {
         return ReadAnswer::Refused(Errno::Esrch);
     }
     let mut scratch = [0u8; LONGEST_MEMBERSHIP];

@@ -37,4 +37,4 @@ applied-hand-over xs k user g owner v ys w =
       live = upd-keeps (λ (x : Group). x .core .live) (view xs .group) g after refl;
       own = upd-keeps (λ (x : Group). x .core .own) (view xs .group) g after refl;
     })
-    refl
+    refl refl

@@ -11,35 +11,36 @@ use borrow.Author.Tests.{leb-false}
 use Rattle.model.specs.Functions.{upd, weigh}
 use Rattle.model.specs.Sizes.{groups, deepest}
 use Rattle.model.specs.Checks.{Pass}
-use Rattle.model.specs.Tree.{Tree, Core, Group, groupTaken, noGroup, newCore, newGroup, atGroup, cores, lives, depths, places}
+use Rattle.model.specs.Tree.{Tree, Core, Group, noGroup, newCore, newGroup, atGroup, cores, lives, depths, places}
 use Rattle.model.specs.Hierarchy.{amount, factsOf}
+use Rattle.model.specs.Zombies.{groupTaken}
 use Rattle.model.specs.Calls.{make, checks, verdict}
 use Rattle.model.specs.Effects.{effect}
 use Rattle.model.specs.declared.Resource.{Resource}
 use Rattle.model.specs.declared.Answer.the-variants.{Done}
-use Rattle.model.proofs.FunctionLaws.{weigh-zero, upd-map}
-use Rattle.model.proofs.RuleLaws.{untaken-group}
+use Rattle.model.proofs.FunctionLaws.{or-false, weigh-zero, upd-map}
+use Rattle.model.proofs.ZombieCounts.{zombies-after-make}
 use Rattle.model.proofs.AmountLaws.{amount-after-make}
 use Rattle.model.proofs.Steps.{passed}
 use Rattle.tree.specs.Layout.{view, sumIn}
 use Rattle.tree.specs.Changes.{Wrote, AdjustedAt}
 use Rattle.tree.specs.Counters.{Countable}
-use Rattle.tree.specs.Kept.{children, countOf, Kept}
+use Rattle.tree.specs.Kept.{children, countIn, Kept}
 use Rattle.tree.specs.Calling.{Applied}
 use Rattle.tree.specs.declared.sum.Counter.{Counter}
-use Rattle.tree.specs.declared.sum.Counter.the-variants.{Of, Children, Members}
+use Rattle.tree.specs.declared.sum.Counter.the-variants.{Of, Children, Members, Zombies}
 use Rattle.tree.proofs.AdjustLaws.{sum-adjusted-at}
 use Rattle.tree.proofs.KeptLaws.{countable}
 use Rattle.tree.proofs.CountLaws.{children-after-make}
 use Rattle.tree.proofs.CallLaws.{applied}
-use Rattle.groups.proofs.ChildLaws.{children-apart, members-apart}
+use Rattle.groups.proofs.ChildLaws.{children-apart, members-apart, zombies-apart}
 
 -- what the checks say where all pass
 pub record Makeable (t : Tree) (parent new : ℕ) : Type 0 where
   pub above : parent < groups
   pub home : lives t parent ≡ true
   pub low : new < groups
-  pub free : groupTaken (t .group new) ≡ false
+  pub free : groupTaken t new ≡ false
   pub shallow : depths t parent < deepest
 
 pub makeable : (t : Tree) (user parent new : ℕ) → verdict t (make user parent new) ≡ Done → Makeable t parent new
@@ -59,7 +60,7 @@ module _ (xs : List ℕ) (k : Kept xs) (user parent new : ℕ) (v : verdict (vie
   m = makeable (view xs) user parent new v
 
   dead : lives (view xs) new ≡ false
-  dead = untaken-group (view xs .group new) (m .free)
+  dead = or-false (lives (view xs) new) _ (m .free) .0
 
   abbrev s : ℕ → Core
   s = cores (view xs)
@@ -95,7 +96,7 @@ module _ (xs : List ℕ) (k : Kept xs) (user parent new : ℕ) (v : verdict (vie
 
   -- a number that is free has no group in its row
   pub new-blank : (zs : List ℕ) → AdjustedAt xs zs Children parent 1 0 → view zs .group new ≡ noGroup
-  new-blank zs j = ap (λ (t : Tree). t .group new) (j .tree) ∙ k .formed .blank .freeGroup new (m .free)
+  new-blank zs j = ap (λ (t : Tree). t .group new) (j .tree) ∙ k .formed .blank .freeGroup new dead
 
   pub applied-make : (zs ys : List ℕ) (d : ℕ) → d ≡ depths (view xs) parent → AdjustedAt xs zs Children parent 1 0
       → Wrote zs ys (atGroup (view zs) new (newGroup parent (d + 1) user)) → Applied xs ys (make user parent new)
@@ -107,7 +108,10 @@ module _ (xs : List ℕ) (k : Kept xs) (user parent new : ℕ) (v : verdict (vie
       applied xs k (make user parent new) v ys
       (record { long = w .long; tree = w .tree; sums = λ c a. w .sums c a ∙ counted depth c a; spare = w .spare (j .spare (k .spare)) })
     where
-      counted : (depth : ℕ) (c : Counter) (a : ℕ) → sumIn zs c a ≡ countOf (cores (made depth)) (places (view xs)) c a
+      counted : (depth : ℕ) (c : Counter) (a : ℕ) → sumIn zs c a ≡ countIn (made depth) c a
       counted depth (Of r) a = j .other (Of r) (children-apart r) a ∙ k .sums (Of r) a ∙ sym (amount-same depth r a)
       counted depth Children a = count-above zs j depth a
       counted depth Members a = j .other Members members-apart a ∙ k .sums Members a
+      counted depth Zombies a =
+          j .other Zombies zombies-apart a ∙ k .sums Zombies a
+          ∙ sym (zombies-after-make (view xs) (k .formed) (newGroup parent depth user) new (m .free) a)

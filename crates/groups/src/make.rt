@@ -10,17 +10,18 @@ use model::GroupId;
 use tree::counter::adjust;
 use tree::group::depth;
 use tree::group::is_live;
-use tree::group::is_taken;
 use tree::group::set_group;
 use tree::layout::DEEPEST;
 use tree::layout::GROUPS;
 use tree::layout::Tree;
+use tree::rule::is_taken;
 use tree::rule::may_write;
 use tree::sum::Counter;
 
 // 22 a number out of range; 2 the parent not live; 17 the new number taken; 13 the user may not write the parent; 11 the parent as
 // deep as a group can be.
 fn vet_make(tree: &Tree, user: u32, parent: GroupId, new: GroupId) -> Answer
+    requires { ⌜ Kept (now tree) ⌝ }
     ensures { λ r. ⌜ r ≡ verdict (view (now (tree .entry))) (make user (parent .0) (new .0)) ⌝ }
 {
     if GROUPS <= parent.0 {

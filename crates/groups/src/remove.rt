@@ -8,13 +8,16 @@ use model::Answer;
 use model::Errno;
 use model::GroupId;
 use tree::counter::adjust;
+use tree::counter::count;
 use tree::group::clear_group;
+use tree::group::depth;
 use tree::group::is_live;
 use tree::group::own;
 use tree::group::parent;
 use tree::group::set_own;
 use tree::layout::GROUPS;
 use tree::layout::Tree;
+use tree::removed::set_removed;
 use tree::rule::has_child;
 use tree::rule::has_process;
 use tree::rule::may_write;
@@ -47,7 +50,8 @@ fn vet_remove(tree: &Tree, user: u32, group: GroupId) -> Answer
     Answer::Done
 }
 
-// The group is no longer live, and its own pages pass to its parent. No running sum above it changes.
+// The group is no longer live, and its own pages pass to its parent. No running sum above it changes. Where zombies ended inside it, what
+// their paths need is left of it.
 pub fn remove(tree: &mut Tree, user: u32, group: GroupId) -> Answer
     requires { ⌜ Kept (now tree) ⌝ }
     ensures { λ r. ⌜ Called (now (tree .entry)) (now (tree .exit)) (remove user (group .0)) r ⌝ }
@@ -57,10 +61,17 @@ pub fn remove(tree: &mut Tree, user: u32, group: GroupId) -> Answer
         return v;
     };
     let above = parent(tree, group);
+    let deep = depth(tree, group);
+    let waiting = count(tree, group, Counter::Zombies);
     let held = own(tree, above);
     let pages = held + own(tree, group);
     adjust(tree, above, Counter::Children, 0, 1);
     set_own(tree, above, pages);
     clear_group(tree, group);
+    if waiting == 0 {
+        return Answer::Done;
+    }
+    set_removed(tree, group, above, deep);
+    adjust(tree, group, Counter::Zombies, waiting, 0);
     Answer::Done
 }

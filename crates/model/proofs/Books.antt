@@ -217,6 +217,7 @@ booked t (Call.writeSetting user g file line) w =
 booked t (Call.admit p user) w = quietly t _ (λ _. refl) (λ _. record { machine = refl; groups = refl; places = places-put t p _ })
 booked t (Call.fork p new) w = quietly t _ (λ _. refl) (λ _. record { machine = refl; groups = refl; places = places-put t new _ })
 booked t (Call.exit p) w = quietly t _ (λ _. refl) (λ _. record { machine = refl; groups = refl; places = places-put t p _ })
+booked t (Call.collect p) w = quietly t _ (λ _. refl) (λ _. record { machine = refl; groups = refl; places = refl })
 booked t (Call.charge p n) w =
     quietly t _ (λ _. refl) (λ _. record { machine = refl; groups = cores-put t (processGroup t p) _; places = refl })
 booked t (Call.release g n) w = quietly t _ (λ _. refl) (λ _. record { machine = refl; groups = cores-put t g _; places = refl })

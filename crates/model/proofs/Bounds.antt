@@ -28,11 +28,11 @@ use Rattle.model.specs.declared.SettingValue.{SettingValue}
 use Rattle.model.proofs.FunctionLaws.{split, whether, upd-same, upd-other, upd-map, upd-keeps, upd-all, weigh-yes}
 use Rattle.model.proofs.ChainLaws.{inside-live, inside-root}
 use Rattle.model.proofs.AmountLaws.{place-live, place-free, usage-same, usage-after-charge, population-after-birth, amount-after-make, amount-after-remove}
-use Rattle.model.proofs.RuleLaws.{untaken-process}
+use Rattle.model.proofs.ZombieLaws.{untaken-process}
 use Rattle.model.proofs.RoomLaws.{room-on-chain, root-limit-none, own-limit-holds, over-figure, no-figure}
 use Rattle.model.proofs.Preservation.{cores-after-remove}
 use Rattle.model.proofs.ControlPreservation.{amount-after-control}
-use Rattle.model.proofs.Changes.{WritesSetting, Altering, usage-altered, Making, Removing, Change, nothing, placed, altered, made, removal, control}
+use Rattle.model.proofs.Changes.{made-dead, WritesSetting, Altering, usage-altered, Making, Removing, Change, nothing, placed, altered, made, ended, collected, removal, control}
 use Rattle.model.proofs.Steps.{process-lives, change}
 use Rattle.model.proofs.Books.{cores-after-control, bookWith, booked}
 
@@ -60,7 +60,7 @@ within-after-add t w r p c (byFork {parent = parent}) k a i =
     let g : ℕ = processGroup t parent in
     let lg : lives t g ≡ true = process-lives t w parent (search) in
     let here : places t parent ≡ at g = place-live (places t parent) (search) in
-    let free : places t p ≡ nowhere = place-free (places t p) (untaken-process (t .process p) (search)) in
+    let free : places t p ≡ nowhere = place-free (places t p) (untaken-process t p (search) .0) in
     let j : inside (parents t) a g ≡ true =
     sym (ap (λ x. inside (parents t) a (groupOf (x .place))) (upd-same (t .process) p (t .process parent))) ∙ i in
     let u : population (cores t) (places (effect t (Call.fork parent p))) a ≡ population (cores t) (places t) a + 1 =
@@ -142,7 +142,7 @@ module _ (t : Tree) (w : WellFormed t) where
         bound = λ a l e. inl (omega (
           arith,
           ap (λ s. usage s a) (upd-map (λ x. x .core) (t .group) new (newGroup parent (suc (depths t parent)) user)),
-          amount-after-make (cores t) (places t) (depths t) (w .sound) (w .placed) Pages new parent a (k .dead),
+          amount-after-make (cores t) (places t) (depths t) (w .sound) (w .placed) Pages new parent a (made-dead t w k),
         ));
       }
 
@@ -177,11 +177,13 @@ module _ (t : Tree) (w : WellFormed t) where
 
   pub limited-change : {c : Call} {u : Tree} → Change t c u → Limited t u ⊎ WritesSetting c
   limited-change (nothing f) = inl (record { kept = λ a l e. e; bound = λ a l e. inl (omega arith) })
-  limited-change (placed p v k) = inl (record { kept = λ a l e. e; bound = λ a l e. inl (omega arith) })
+  limited-change (placed p v k l) = inl (record { kept = λ a l e. e; bound = λ a l e. inl (omega arith) })
   limited-change {c} (altered g v k) =
       ⊎-elim (λ same. inl (limited-altered g v k same)) (λ (s : WritesSetting c). inr s) (k .limit)
   limited-change (made user parent new f k) = inl (limited-made user parent new k)
-  limited-change (removal g f k) = inl (limited-removed g k)
+  limited-change (ended p k l) = inl (record { kept = λ a m e. e; bound = λ a m e. inl (omega arith) })
+  limited-change (collected p f z) = inl (record { kept = λ a l e. e; bound = λ a l e. inl (omega arith) })
+  limited-change (removal user g f k) = inl (limited-removed g k)
   limited-change (control g line f k) = inl (limited-control g line)
 
   marked-limited : (u : Tree) (mark : ℕ → ℕ) → Limited t u → Marked (cores t) mark → Marked (cores u) mark

@@ -1,5 +1,5 @@
--- What an accepted call may do to a tree: one of six changes, each with what the laws about all calls need to know of it. Whatever
--- is said of every call goes by these six and not by the calls, so that a call that makes no new kind of change costs one clause,
+-- What an accepted call may do to a tree: one of eight changes, each with what the laws about all calls need to know of it. Whatever
+-- is said of every call goes by these eight and not by the calls, so that a call that makes no new kind of change costs one clause,
 -- that of `change` in Steps.antt. Assumes nothing.
 use Prim.Native.Nat.{ℕ, suc, _+_, _≤_, _<_}
 use native.Mathlib.Omega.{arith}
@@ -8,19 +8,21 @@ use mathlib.Core.List.{List}
 use mathlib.Core.Logic.{_≢_, _⊎_, inl, inr, ⊎-elim}
 use mathlib.Core.Path.{_≡_, ap, sym, _∙_}
 use Rattle.model.specs.Sizes.{groups, processes, deepest}
-use Rattle.model.specs.Tree.{Tree, Group, Process, nowhere, at, isLive, noProcess, processTaken, newGroup, atGroup, atProcess, cores, lives, parents, depths, owners, sets, places}
+use Rattle.model.specs.Tree.{Tree, Group, Process, nowhere, at, isLive, noProcess, newGroup, atGroup, atProcess, withPast, cores, lives, parents, depths, owners, sets, places, zombies, noRemnant, remains}
 use Rattle.model.specs.Hierarchy.{inside, headcount, usage}
+use Rattle.model.specs.Zombies.{isZombie, groupTaken}
 use Rattle.model.specs.Rooms.{over, actingLimit}
 use Rattle.model.specs.Rules.{mayWrite, lineProcess, leaving}
 use Rattle.model.specs.Calls.{Call}
-use Rattle.model.specs.Effects.{removed, newSet, controlled}
+use Rattle.model.specs.Effects.{pastExit, pastCollect, removed, newSet, controlled}
 use Rattle.model.specs.WellFormed.{WellFormed}
 use Rattle.model.specs.Totals.{Flow, flow}
 use Rattle.model.specs.declared.Resource.{Resource}
 use Rattle.model.specs.declared.Resource.the-variants.{Pages, Processes}
 use Rattle.model.specs.declared.Controller.{Controller}
-use Rattle.model.proofs.FunctionLaws.{split, clash, weigh-yes, weigh-no}
+use Rattle.model.proofs.FunctionLaws.{split, clash, or-false, weigh-yes, weigh-no}
 use Rattle.model.proofs.RuleLaws.{NoChild}
+use Rattle.model.proofs.ZombieLaws.{untaken-blank}
 use Rattle.model.proofs.Preservation.{Patch, usage-after-patch}
 use Rattle.model.proofs.ControlPreservation.{Control}
 
@@ -61,6 +63,7 @@ pub record Placing (t : Tree) (c : Call) (p : ℕ) (v : Process) : Type 0 where
   pub low : p < processes
   pub stands : (v ≡ noProcess) ⊎ StandsLive t v
   pub moved : (g h : ℕ) → places t p ≡ at g → v .place ≡ at h → (g ≡ h) ⊎ Moves c p h
+  pub unended : isLive (v .place) ≡ true → zombies t p ≡ nowhere
   pub heads : Flowed c Processes (λ _. Unit {0}) (headcount (places t p)) (headcount (v .place))
 
 module _ {t : Tree} {c : Call} {p : ℕ} {v : Process} (k : Placing t c p v) where
@@ -72,7 +75,7 @@ module _ {t : Tree} {c : Call} {p : ℕ} {v : Process} (k : Placing t c p v) whe
       (λ (s : StandsLive t v). let d : s .group ≡ g = cc (s .here) in rw (← d) (s .alive, s .quiet))
       (k .stands)
 
-  pub place-blank : processTaken v ≡ false → v ≡ noProcess
+  pub place-blank : isLive (v .place) ≡ false → v ≡ noProcess
   place-blank f = ⊎-elim (λ n. n) (λ (s : StandsLive t v). clash (isLive (v .place)) (rw (s .here)) f) (k .stands)
 
 -- "would pass memory.max" of no group on the way up from g
@@ -107,10 +110,18 @@ usage-altered t w {c} g v k a =
 -- a group that is made with a free number, under one that its maker may write
 pub record Making (t : Tree) (user parent new : ℕ) : Type 0 where
   pub above : lives t parent ≡ true
-  pub dead : lives t new ≡ false
+  pub free : groupTaken t new ≡ false
   pub low : new < groups
   pub shallow : depths t parent < deepest
   pub may : mayWrite t user parent ≡ true
+
+-- such a number is not live, and nothing is left of a group with it
+module _ (t : Tree) (w : WellFormed t) {user parent new : ℕ} (k : Making t user parent new) where
+  pub made-dead : lives t new ≡ false
+  made-dead = or-false (lives t new) _ (k .free) .0
+
+  pub made-blank : remains t new ≡ noRemnant
+  made-blank = untaken-blank t w new (or-false (lives t new) _ (k .free) .1)
 
 -- a group without children and processes
 pub record Removing (t : Tree) (g : ℕ) : Type 0 where
@@ -121,10 +132,12 @@ pub record Removing (t : Tree) (g : ℕ) : Type 0 where
 
 pub data Change (t : Tree) (c : Call) : Tree → Type 0 where
   nothing : flow c ≡ Flow.none → Change t c t
-  placed : (p : ℕ) (v : Process) → Placing t c p v → Change t c (atProcess t p v)
+  placed : (p : ℕ) (v : Process) → Placing t c p v → isLive (v .place) ≡ true → Change t c (atProcess t p v)
   altered : (g : ℕ) (v : Group) → Altering t c g v → Change t c (atGroup t g v)
   made : (user parent new : ℕ) → flow c ≡ Flow.none → Making t user parent new
       → Change t c (atGroup t new (newGroup parent (suc (depths t parent)) user))
-  removal : (g : ℕ) → flow c ≡ Flow.none → Removing t g → Change t c (removed t g)
+  ended : (p : ℕ) → Placing t c p noProcess → isLive (places t p) ≡ true → Change t c (withPast (pastExit t p) (atProcess t p noProcess))
+  collected : (p : ℕ) → c ≡ Call.collect p → isZombie (zombies t p) ≡ true → Change t c (withPast (pastCollect t p) t)
+  removal : (user g : ℕ) → c ≡ Call.remove user g → Removing t g → Change t c (removed t g)
   control : (g : ℕ) (line : List ℕ) → flow c ≡ Flow.none → Control t g (newSet t g line) (leaving t g line)
       → Change t c (controlled t g (newSet t g line) (leaving t g line))

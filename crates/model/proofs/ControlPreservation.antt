@@ -6,7 +6,7 @@ use mathlib.Core.Path.{_≡_, refl, ap, sym, _∙_, fun-ext}
 use lib.Dec.{eqb}
 use borrow.Author.Tests.{eqb-true, eqb-false, eq-eqb, ne-eqb, not-true}
 use Rattle.model.specs.Functions.{upd}
-use Rattle.model.specs.Tree.{Tree, Core, Group, at, groupTaken, Controls, Settings, settingsOf, withSettings, withSet, cores, lives, parents, owners, sets, settingsAt, places}
+use Rattle.model.specs.Tree.{Tree, Core, Group, at, Controls, Settings, settingsOf, withSettings, withSet, cores, lives, parents, owners, sets, settingsAt, places}
 use Rattle.model.specs.Hierarchy.{childOf, ownPages, amount}
 use Rattle.model.specs.Settings.{AtDefault, reset}
 use Rattle.model.specs.WellFormed.{Defaults, WellFormed}
@@ -16,7 +16,8 @@ use Rattle.model.specs.declared.Resource.the-variants.{Pages}
 use Rattle.model.specs.declared.Controller.{Controller}
 use Rattle.model.proofs.FunctionLaws.{split, whether, clash, and-left, and-right, upd-same, upd-other, upd-map, upd-keeps}
 use Rattle.model.proofs.AmountLaws.{amount-same}
-use Rattle.model.proofs.RuleLaws.{untaken-group, sound-eq, placed-eq, top-down-eq, defaults-eq, ranges-eq, quiet-eq, top-down-after-control, quiet-after-set, on-other}
+use Rattle.model.proofs.RuleLaws.{sound-eq, placed-eq, top-down-eq, defaults-eq, ranges-eq, quiet-eq, top-down-after-control, quiet-after-set, on-other}
+use Rattle.model.proofs.Remembering.{remembered-eq}
 use Rattle.model.proofs.PieceLaws.{default-of-reset, default-after-reset}
 use Rattle.model.proofs.AllowedLaws.{allowed-after-reset}
 
@@ -140,13 +141,13 @@ module _ (t : Tree) (g : ℕ) (set gone : Controls) where
           blank =
               record {
                 freeGroup = λ k d.
-                    let free : groupTaken (t .group k) ≡ false = sym (ap (λ f. f k) (part-kept groupTaken (λ _ _. refl) refl)) ∙ d in
-                    let dead : lives t k ≡ false = untaken-group (t .group k) free in
+                    let dead : lives t k ≡ false = sym (ap (λ f. f k) live-after-control) ∙ d in
                     let n : childOf g k (cores t k) ≡ false = split (childOf g k (cores t k)) (λ y. clash (lives t k) (child-live g k (cores t k) y) dead) (λ n. n) in
                     reset-other t g gone k _ n ∙ upd-other (t .group) g _ k (λ e. clash (lives t k) (rw e (q .alive)) dead)
-                    ∙ w .blank .freeGroup k free;
+                    ∙ w .blank .freeGroup k dead;
                 freeProcess = w .blank .freeProcess;
               };
+          past = remembered-eq live-after-control parent-after-control (part-kept (λ x. x .depth) (λ _ _. refl) refl) refl (w .past);
           owned = ap (λ f. f 0) owner-after-control ∙ w .owned;
           sized = record { size = w .sized .size; fits = rw (amount-after-control Pages 0) (w .sized .fits) };
         }

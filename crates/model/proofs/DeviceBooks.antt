@@ -105,6 +105,7 @@ rates-entered t (Call.writeSetting user g file line) w p =
 rates-entered t (Call.admit q user) w p = refl
 rates-entered t (Call.fork q new) w p = refl
 rates-entered t (Call.exit q) w p = refl
+rates-entered t (Call.collect q) w p = refl
 rates-entered t (Call.charge q n) w p = rates-kept t _ _ refl
 rates-entered t (Call.release g n) w p = rates-kept t g _ refl
 rates-entered t (Call.read g file buffer) w p = refl

@@ -4,21 +4,22 @@ use Prim.Native.Nat.{ℕ, zero, suc, _+_, _-_, _*_, _≤_, _<_}
 use native.Mathlib.Decide.{decLt}
 use native.Mathlib.Numerals.{add-one}
 use native.Mathlib.Omega.{arith}
-use mathlib.Core.Bool.{Bool, true, false}
+use mathlib.Core.Bool.{Bool, true, false, _||_}
 use mathlib.Core.List.{List, [], _∷_, _++_}
 use mathlib.Core.Logic.{_≢_}
-use mathlib.Core.Path.{_≡_, refl, ap, sym, _∙_}
+use mathlib.Core.Path.{_≡_, refl, ap, ap₂, sym, _∙_}
 use lib.ListN.{length, length-append}
 use borrow.Author.Tests.{eq-eqb, ne-eqb, le-leb, lt-leb}
 use Rattle.model.specs.Functions.{mapped, orElse}
 use Rattle.model.specs.Sizes.{processes, deepest, longestListing, longestMembership}
 use Rattle.model.specs.Checks.{bar, need, first, answerNumber}
-use Rattle.model.specs.Tree.{Tree, Place, nowhere, at, Process, processTaken, isLive, lives, parents, places}
+use Rattle.model.specs.Tree.{Tree, Place, nowhere, at, Process, Past, isLive, lives, places}
+use Rattle.model.specs.Zombies.{isZombie, pathParents, processTaken, lastGroup}
 use Rattle.model.specs.Hierarchy.{factsOf}
 use Rattle.model.specs.Text.{bytes, newline, ended, decimal}
 use Rattle.model.specs.Names.{fileName}
-use Rattle.model.specs.Rules.{standsIn, processGroup}
-use Rattle.model.specs.Files.{processLines, contents, path, membershipLine}
+use Rattle.model.specs.Rules.{standsIn}
+use Rattle.model.specs.Files.{pathText, deletedMark, processLines, contents, path, membershipLine}
 use Rattle.model.specs.Calls.{admit, read, membership, fileText, checks, verdict}
 use Rattle.model.specs.Effects.{effect, step, fresh, run}
 use Rattle.model.specs.WellFormed.{Sound, WellFormed}
@@ -29,7 +30,7 @@ use Rattle.model.specs.declared.Answer.the-variants.{Done}
 use Rattle.model.proofs.FunctionLaws.{split, whether, clash, upd-same, upd-other}
 use Rattle.model.proofs.DecimalLaws.{length-decimal, length-decimal-least}
 use Rattle.model.proofs.NameLaws.{fileNamed-fileName}
-use Rattle.model.proofs.AmountLaws.{place-live}
+use Rattle.model.proofs.ZombieLaws.{last-there}
 use Rattle.model.proofs.Steps.{by-verdict, step-accepted, step-refused, well-formed-run}
 use Rattle.model.proofs.Books.{reply-number}
 use Rattle.model.proofs.Reached.{well-formed-fresh}
@@ -144,7 +145,14 @@ module _ (place : ℕ → Place) (g : ℕ) where
 -- ---- where every process was admitted
 
 module _ (user : ℕ) where
-  -- an admission changes nobody else's place
+  -- an admission changes nobody else's place, and no zombie
+  admitted-past : (t : Tree) (p : ℕ) → step t (admit p user) .past ≡ t .past
+  unfolding effect
+  admitted-past t p =
+      by-verdict t (admit p user)
+      (λ e. ap (λ (u : Tree). u .past) (step-accepted t (admit p user) e))
+      (λ x e. ap (λ (u : Tree). u .past) (step-refused t (admit p user) x e))
+
   admitted-other : (t : Tree) (p q : ℕ) → q ≢ p → step t (admit p user) .process q ≡ t .process q
   unfolding effect
   admitted-other t p q ne =
@@ -152,7 +160,7 @@ module _ (user : ℕ) where
       (λ e. ap (λ (u : Tree). u .process q) (step-accepted t (admit p user) e) ∙ upd-other (t .process) p _ q ne)
       (λ x e. ap (λ (u : Tree). u .process q) (step-refused t (admit p user) x e))
 
-  admitted-here : (t : Tree) (p : ℕ) → p ≢ 0 → p < processes → processTaken (t .process p) ≡ false → places (step t (admit p user)) p ≡ at 0
+  admitted-here : (t : Tree) (p : ℕ) → p ≢ 0 → p < processes → processTaken t p ≡ false → places (step t (admit p user)) p ≡ at 0
   unfolding effect verdict checks first
   admitted-here t p nz low free =
       let e : verdict t (admit p user) ≡ Done = rw (ne-eqb p 0 nz, lt-leb processes p low, free, first) in
@@ -164,7 +172,7 @@ module _ (user : ℕ) where
   admissions-before (suc n) p q t l =
       admissions-before n (suc p) q (step t (admit p user)) (omega arith) ∙ admitted-other t p q (λ e. omega arith)
 
-  all-admitted : (n p : ℕ) (t : Tree) → 1 ≤ p → p + n ≤ processes → ((q : ℕ) → p ≤ q → processTaken (t .process q) ≡ false)
+  all-admitted : (n p : ℕ) (t : Tree) → 1 ≤ p → p + n ≤ processes → ((q : ℕ) → p ≤ q → processTaken t q ≡ false)
       → (q : ℕ) → p ≤ q → q < p + n → places (run t (admissions user p n)) q ≡ at 0
   unfolding run admissions
   all-admitted zero p t one few free q from to = absurd (omega arith)
@@ -175,9 +183,10 @@ module _ (user : ℕ) where
       (ap (λ (x : Process). x .place) (admissions-before n (suc p) p u (omega arith))
       ∙ admitted-here t p (λ z. omega arith) (omega arith) (free p (omega arith))))
       (λ ne. all-admitted n (suc p) u (omega arith) (omega arith)
-      (λ r l. ap processTaken (admitted-other t p r (λ e. omega arith)) ∙ free r (omega arith)) q (omega arith) (omega arith))
+      (λ r l. ap₂ (λ (x : Process) (z : Past). isLive (x .place) || isZombie (z .zombie r)) (admitted-other t p r (λ e. omega arith)) (admitted-past t p)
+      ∙ free r (omega arith)) q (omega arith) (omega arith))
 
-unborn : (m q : ℕ) → processTaken (fresh m .process q) ≡ false
+unborn : (m q : ℕ) → processTaken (fresh m) q ≡ false
 unfolding fresh
 unborn m q = refl
 
@@ -220,15 +229,20 @@ length-path {up = up} s (suc n) g l =
       length-decimal g 3 (omega (arith, s .range g l)) (omega arith),
     )))
 
-length-membership : (t : Tree) → WellFormed t → (p : ℕ) → isLive (places t p) ≡ true → length (membershipLine t p) ≤ longestMembership
+length-mark : (t : Tree) (g : ℕ) → length (deletedMark t g) ≤ 10
+length-mark t g = split (lives t g) (λ l. rw l (omega arith)) (λ n. rw n (omega arith))
+
+length-membership : (t : Tree) → WellFormed t → (p : ℕ) → processTaken t p ≡ true → length (membershipLine t p) ≤ longestMembership
 unfolding membershipLine
-length-membership t w p l =
-    let g : ℕ = processGroup t p in
-    let live : lives t g ≡ true = w .placed .group p g (place-live (places t p) l) in
+length-membership t w p k =
+    let g : ℕ = lastGroup t p in
+    let text : List ℕ = pathText t g ++ deletedMark t g in
+    let short : length (pathText t g) ≤ 67 =
     whether g 0
     (λ e. rw (eq-eqb g 0 e) (omega arith))
     (λ ne. rw (ne-eqb g 0 ne)
-    (omega (arith, length-append (path (parents t) deepest g) (newline ∷ []), length-path (w .sound) deepest g live)))
+    (omega (arith, length-append (bytes "0::") (path (pathParents t) deepest g), length-path (w .past .paths) deepest g (last-there t w p k)))) in
+    omega (arith, length-append text (newline ∷ []), length-append (pathText t g) (deletedMark t g), length-mark t g)
 
 -- ---- a text that fits is not refused for room
 

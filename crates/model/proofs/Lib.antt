@@ -7,6 +7,9 @@ pub mod OneWalk
 pub mod HeldLaws
 pub mod AmountLaws
 pub mod RuleLaws
+pub mod ZombieLaws
+pub mod Remembering
+pub mod ZombieCounts
 pub mod RoomLaws
 pub mod RoomAnswerLaws
 pub mod ControlLaws
@@ -44,8 +47,11 @@ pub mod OwnsInside
 pub mod Totals
 pub mod Counts
 pub mod LengthLaws
+pub mod LineLaws
+pub mod TakenLaws
 pub mod Demands
 pub mod Slips
+pub mod EveningLaws
 pub mod Worked
 pub mod Meetings
 pub mod Refusals

@@ -22,7 +22,7 @@ use Rattle.model.proofs.ChainLaws.{inside-up, inside-after-make, inside
 use Rattle.model.proofs.RuleLaws.{NoChild}
 use Rattle.model.proofs.Preservation.{Patch, part-after-remove}
 use Rattle.model.proofs.ControlPreservation.{live-after-control, parent-after-control, owner-after-control}
-use Rattle.model.proofs.Changes.{HandsOver, Making, Change, nothing, placed, altered, made, removal, control}
+use Rattle.model.proofs.Changes.{made-dead, HandsOver, Making, Change, nothing, placed, altered, made, ended, collected, removal, control}
 use Rattle.model.proofs.Steps.{step-accepted, step-refused, by-verdict, passed, change, well-formed-effect, well-formed-step}
 use Rattle.model.proofs.Books.{reply-number}
 use Rattle.model.proofs.Containment.{owner-of-write, contained}
@@ -38,11 +38,11 @@ module _ (t : Tree) (w : WellFormed t) (user d : ℕ) (nz : user ≢ 0) (own : O
       (λ e. let here : by ≡ user = sym (ap (λ x. x .owner) (upd-same (t .group) new v)) ∙ rw e at o in
       let mine : owners t parent ≡ user = owner-of-write t user parent nz (rw here at (k .may)) in
       let above : parents (atGroup t new v) g ≡ parent = rw (e, up) (upd-same (parents t) new parent) in
-      inside-up (w′ .sound) d g l (λ z. clash (lives t new) (rw (sym e ∙ z) (w .sound .root)) (k .dead))
-      (rw (above, up) (inside-after-make (w .sound) new parent (k .dead) d parent (k .above) ∙ own parent (k .above) mine)))
+      inside-up (w′ .sound) d g l (λ z. clash (lives t new) (rw (sym e ∙ z) (w .sound .root)) (made-dead t w k))
+      (rw (above, up) (inside-after-make (w .sound) new parent (made-dead t w k) d parent (k .above) ∙ own parent (k .above) mine)))
       (λ ne. let old : t .group g ≡ upd (t .group) new v g = sym (upd-other (t .group) new v g ne) in
       let lg : lives t g ≡ true = ap (λ x. x .core .live) old ∙ l in
-      rw up (inside-after-make (w .sound) new parent (k .dead) d g lg ∙ own g lg (ap (λ x. x .owner) old ∙ o)))
+      rw up (inside-after-make (w .sound) new parent (made-dead t w k) d g lg ∙ own g lg (ap (λ x. x .owner) old ∙ o)))
 
   -- a group without children is removed
   owns-removed : (r : ℕ) → NoChild (lives t) (parents t) r → OwnsInside (removed t r) user d
@@ -82,7 +82,7 @@ module _ (t : Tree) (w : WellFormed t) (user d : ℕ) (nz : user ≢ 0) (own : O
 
   owns-change : {c : Call} {u : Tree} → Change t c u → Accepted t c → WellFormed u → (GivesOutside user d t c → ⊥) → OwnsInside u user d
   owns-change (nothing x) z w′ f = own
-  owns-change (placed p v k) z w′ f = own
+  owns-change (placed p v k l) z w′ f = own
   owns-change {c} (altered g v k) z w′ f =
       owns-altered g v (k .patch)
       (λ e. ⊎-elim
@@ -90,7 +90,9 @@ module _ (t : Tree) (w : WellFormed t) (user d : ℕ) (nz : user ≢ 0) (own : O
       (λ (h : HandsOver c g (v .owner)). given-inside g v c z f h e)
       (k .owner))
   owns-change (made by parent new x k) z w′ f = owns-made by parent new k w′
-  owns-change (removal g x k) z w′ f = owns-removed g (k .noChild)
+  owns-change (ended p k l) z w′ f = own
+  owns-change (collected p x k) z w′ f = own
+  owns-change (removal user g x k) z w′ f = owns-removed g (k .noChild)
   owns-change (control h line x k) z w′ f =
       let set = newSet t h line in
       let gone = leaving t h line in

@@ -7,16 +7,17 @@ use mathlib.Core.Logic.{_≢_, inl, inr}
 use mathlib.Core.Path.{_≡_, refl, ap, sym, _∙_, fun-ext}
 use Rattle.model.specs.Functions.{upd, weigh}
 use Rattle.model.specs.Sizes.{groups, processes, deepest}
-use Rattle.model.specs.Tree.{Tree, Group, Process, at, settingsOf, noCore, noControls, noGroup, noProcess, groupTaken, processTaken, newGroup, atGroup, atProcess, cores, lives, parents, depths, owners, sets, settingsAt, places}
+use Rattle.model.specs.Tree.{Tree, Group, Process, nowhere, at, settingsOf, noCore, noControls, noGroup, noProcess, isLive, Past, noRemnant, withPast, newGroup, atGroup, atProcess, cores, lives, parents, depths, owners, sets, settingsAt, places, zombies, remains}
 use Rattle.model.specs.Hierarchy.{onIn, inside, ownPages, usage}
 use Rattle.model.specs.Settings.{AtDefault, Allowed}
-use Rattle.model.specs.WellFormed.{WellFormed}
+use Rattle.model.specs.WellFormed.{Remembered, WellFormed}
 use Rattle.model.specs.Effects.{charged, removed}
 use Rattle.model.specs.declared.Controller.{Controller}
 use Rattle.model.specs.declared.Resource.the-variants.{Pages}
 use Rattle.model.proofs.FunctionLaws.{whether, clash, upd-same, upd-other, upd-map, upd-keeps, upd-all, weigh-yes}
 use Rattle.model.proofs.AmountLaws.{usage-change, amount-after-make, amount-after-remove}
 use Rattle.model.proofs.RuleLaws.{NoChild, sound-eq, placed-eq, top-down-eq, defaults-eq, ranges-eq, quiet-eq, sound-after-make, placed-after-make, top-down-after-make, sound-after-remove, placed-after-remove, top-down-after-remove, placed-after-put, quiet-after-put, quiet-after-set, ranges-after-put, ranges-live, defaults-frame, defaults-after-put}
+use Rattle.model.proofs.Remembering.{remembered-eq, remembered-after-put, remembered-after-make, remembered-after-remove}
 
 -- what may change in a live group without a change to the hierarchy
 pub record Patch (t : Tree) (g : ℕ) (v : Group) : Type 0 where
@@ -86,10 +87,11 @@ module _ (t : Tree) (w : WellFormed t) where
           blank =
               record {
                 freeGroup =
-                    upd-all (λ j x. groupTaken x ≡ false → x ≡ noGroup) (t .group) g v
+                    upd-all (λ j x. x .core .live ≡ false → x ≡ noGroup) (t .group) g v
                     (λ d. clash (v .core .live) (k .live) d) (λ j _. w .blank .freeGroup j);
                 freeProcess = w .blank .freeProcess;
               };
+          past = remembered-eq same-live same-parent (part-same (λ x. x .depth) (k .depth)) refl (w .past);
           owned = upd-all (λ j x. j ≡ 0 → x .owner ≡ 0) (t .group) g v (k .owner) (λ j _ z. rw z (w .owned)) 0 refl;
           sized = record { size = w .sized .size; fits = fits };
         }
@@ -98,9 +100,10 @@ module _ (t : Tree) (w : WellFormed t) where
   pub well-formed-after-place : (p : ℕ) (v : Process) → p ≢ 0
       → ((h : ℕ) → v .place ≡ at h → (lives t h ≡ true) × (p < processes))
       → ((h : ℕ) → v .place ≡ at h → h ≢ 0 → (c : Controller) → sets t h c ≡ false)
-      → (processTaken v ≡ false → v ≡ noProcess)
+      → (isLive (v .place) ≡ false → v ≡ noProcess)
+      → (isLive (v .place) ≡ true → zombies t p ≡ nowhere)
       → WellFormed (atProcess t p v)
-  well-formed-after-place p v pz h q n =
+  well-formed-after-place p v pz h q n z =
       let e : places (atProcess t p v) ≡ upd (places t) p (v .place) = upd-map (λ x. x .place) (t .process) p v in
       record {
         sound = w .sound;
@@ -112,14 +115,31 @@ module _ (t : Tree) (w : WellFormed t) where
         blank =
             record {
               freeGroup = w .blank .freeGroup;
-              freeProcess = upd-all (λ j x. processTaken x ≡ false → x ≡ noProcess) (t .process) p v n (λ j _. w .blank .freeProcess j);
+              freeProcess = upd-all (λ j x. isLive (x .place) ≡ false → x ≡ noProcess) (t .process) p v n (λ j _. w .blank .freeProcess j);
             };
+        past = remembered-eq refl refl refl e (remembered-after-put (w .sound) (w .past) p (v .place) z);
+        owned = w .owned;
+        sized = w .sized;
+      }
+
+  -- Only the rule of the dead asks what is kept of them.
+  pub well-formed-after-past : (d : Past) → Remembered (lives t) (parents t) (depths t) (places t) d → WellFormed (withPast d t)
+  well-formed-after-past d m =
+      record {
+        sound = w .sound;
+        placed = w .placed;
+        topDown = w .topDown;
+        defaults = w .defaults;
+        ranges = w .ranges;
+        quiet = w .quiet;
+        blank = w .blank;
+        past = m;
         owned = w .owned;
         sized = w .sized;
       }
 
   -- A group made.
-  module _ (p new user : ℕ) (lp : lives t p ≡ true) (ln : lives t new ≡ false) where
+  module _ (p new user : ℕ) (lp : lives t p ≡ true) (ln : lives t new ≡ false) (blank : remains t new ≡ noRemnant) where
     abbrev made : Group
     made = newGroup p (suc (depths t p)) user
 
@@ -158,10 +178,13 @@ module _ (t : Tree) (w : WellFormed t) where
           blank =
               record {
                 freeGroup =
-                    upd-all (λ j x. groupTaken x ≡ false → x ≡ noGroup) (t .group) new made
+                    upd-all (λ j x. x .core .live ≡ false → x ≡ noGroup) (t .group) new made
                     (λ h. clash true refl h) (λ j _. w .blank .freeGroup j);
                 freeProcess = w .blank .freeProcess;
               };
+          past =
+              remembered-eq (part-made (λ x. x .core .live)) (part-made (λ x. x .core .parent)) (part-made (λ x. x .depth)) refl
+              (remembered-after-make (w .sound) (w .past) new p lp ln blank r d);
           owned = ap (λ x. x .owner) (upd-other (t .group) new made 0 (not-new 0 (w .sound .root))) ∙ w .owned;
           sized =
               record {
@@ -207,11 +230,14 @@ module _ (t : Tree) (w : WellFormed t) where
           blank =
               record {
                 freeGroup =
-                    upd-all (λ j x. groupTaken x ≡ false → x ≡ noGroup) (upd (t .group) (parents t g) heir) g noGroup (λ _. refl)
-                    (λ j _. upd-all (λ i x. groupTaken x ≡ false → x ≡ noGroup) (t .group) (parents t g) heir
+                    upd-all (λ j x. x .core .live ≡ false → x ≡ noGroup) (upd (t .group) (parents t g) heir) g noGroup (λ _. refl)
+                    (λ j _. upd-all (λ i x. x .core .live ≡ false → x ≡ noGroup) (t .group) (parents t g) heir
                     (λ d. clash (lives t (parents t g)) (w .sound .above g lg gz) d) (λ i _. w .blank .freeGroup i) j);
                 freeProcess = w .blank .freeProcess;
               };
+          past =
+              remembered-eq (part-after-remove t g (λ x. x .core .live) refl) (part-after-remove t g (λ x. x .core .parent) refl) (part-after-remove t g (λ x. x .depth) refl) refl
+              (remembered-after-remove (w .sound) (w .past) g lg gz nc);
           owned =
               ap (λ f. f 0) (part-after-remove t g (λ x. x .owner) refl) ∙ upd-other (owners t) g 0 0 (λ e. gz (sym e)) ∙ w .owned;
           sized =

@@ -12,7 +12,7 @@ use borrow.Author.Tests.{eqb-false, eq-eqb, ne-eqb, leb-false, ltb-false, not-fa
 use Rattle.model.specs.Functions.{passes, known}
 use Rattle.model.specs.Sizes.{groups, processes}
 use Rattle.model.specs.Checks.{Pass}
-use Rattle.model.specs.Tree.{Tree, at, isLive, groupOf, noProcess, withOwn, withCore, withOwner, atGroup, cores, lives, parents, sets, settingsAt, places}
+use Rattle.model.specs.Tree.{Tree, Process, at, isLive, groupOf, noProcess, withOwn, withCore, withOwner, atGroup, atProcess, cores, lives, parents, sets, settingsAt, places}
 use Rattle.model.specs.Hierarchy.{on, onIn, childOf, headcount, usage, factsOf}
 use Rattle.model.specs.Control.{asked, isWanted, anyController}
 use Rattle.model.specs.Settings.{settingController, inRange, hasRoom, valueOf}
@@ -20,7 +20,7 @@ use Rattle.model.specs.Text.{lineWords}
 use Rattle.model.specs.Names.{settingNamed}
 use Rattle.model.specs.Rules.{available, standsIn, processGroup, hasChild, hasProcess, heldByChild, lineProcess, joining, leaving}
 use Rattle.model.specs.Calls.{Call, settingValue, lineValue, chargeChecks, forkChecks, settingChecks, checks, verdict}
-use Rattle.model.specs.Effects.{newSet, written, effect, step, run}
+use Rattle.model.specs.Effects.{pastExit, pastCollect, newSet, written, effect, step, run}
 use Rattle.model.specs.WellFormed.{WellFormed}
 use Rattle.model.specs.declared.Resource.the-variants.{Pages}
 use Rattle.model.specs.declared.Controller.{Controller}
@@ -29,18 +29,20 @@ use Rattle.model.specs.declared.SettingValue.{SettingValue}
 use Rattle.model.specs.declared.Errno.{Errno}
 use Rattle.model.specs.declared.Answer.{Answer}
 use Rattle.model.specs.declared.Answer.the-variants.{Done, Refused}
-use Rattle.model.proofs.FunctionLaws.{split, clash, and-false, any-none}
+use Rattle.model.proofs.FunctionLaws.{split, clash, and-false, any-none, upd-map}
 use Rattle.model.proofs.CheckLaws.{first-pass}
 use Rattle.model.proofs.AmountLaws.{place-live, place-free}
 use Rattle.model.proofs.ControlLaws.{any-controller-none, set-after-true, join-none, leave-true}
 use Rattle.model.proofs.PieceLaws.{default-new, default-after-assign}
 use Rattle.model.proofs.AllowedLaws.{allowed-new, allowed-after-assign}
 use Rattle.model.proofs.RoomLaws.{room-on-chain, over-figure, machine-acts}
-use Rattle.model.proofs.RuleLaws.{NoChild, untaken-group, untaken-process}
-use Rattle.model.proofs.Preservation.{Patch, well-formed-after-patch, well-formed-after-place, well-formed-after-make, well-formed-after-remove}
+use Rattle.model.proofs.RuleLaws.{NoChild}
+use Rattle.model.proofs.ZombieLaws.{untaken-process}
+use Rattle.model.proofs.Remembering.{remembered-after-exit, remembered-after-collect, remembered-eq}
+use Rattle.model.proofs.Preservation.{Patch, well-formed-after-patch, well-formed-after-place, well-formed-after-past, well-formed-after-make, well-formed-after-remove}
 use Rattle.model.proofs.ControlPreservation.{child-of, Control, well-formed-after-control}
 use Rattle.model.proofs.SettingPreservation.{part-written}
-use Rattle.model.proofs.Changes.{still, came, went, place-stands, place-blank, usage-altered, Change, nothing, placed, altered, made, removal, control}
+use Rattle.model.proofs.Changes.{still, came, went, place-stands, place-blank, usage-altered, made-dead, made-blank, Placing, Change, nothing, placed, altered, made, ended, collected, removal, control}
 
 -- A step by its verdict.
 pub step-accepted : (t : Tree) (c : Call) → verdict t c ≡ Done → step t c ≡ effect t c
@@ -176,20 +178,20 @@ module _ (t : Tree) (w : WellFormed t) where
           reset = λ c y n. leave-true (sets t g c) (asked line c) y n;
         }
 
--- Every accepted call makes one of the six changes.
+-- Every accepted call makes one of the eight changes.
 pub change : (t : Tree) (c : Call) → WellFormed t → Pass (checks (factsOf t) c) → Change t c (effect t c)
 unfolding effect checks Pass chargeChecks forkChecks settingChecks
 change t (Call.make user parent new) w k =
     made user parent new refl
     (record {
       above = (search);
-      dead = untaken-group (t .group new) (search);
+      free = (search);
       low = omega (arith, leb-false);
       shallow = omega (arith, leb-false);
       may = (search);
     })
 change t (Call.remove user g) w k =
-    removal g refl
+    removal user g refl
     (record { alive = (search); inner = eqb-false g 0 (search); noChild = no-child t w g (search); noProcess = no-process t w g (search) })
 change t (Call.handOver user g owner) w k =
     let l : lives t g ≡ true = (search) in
@@ -211,8 +213,10 @@ change t (Call.writeProcs user g line) w k =
       moved = λ h i was e.
           let d : g ≡ i = cc in
           inr (record { user = user; line = line; call = ap (λ x. Call.writeProcs user x line) d; process = refl });
+      unended = λ _. w .past .process p (search);
       heads = still refl (sym (ap headcount (place-live (places t p) (search))));
     })
+    refl
 change t (Call.writeControl user g line) w k = control g line refl (kept-control t w g line (search) (search) (search) (search))
 change t (Call.writeSetting user g file line) w k =
     altered g _
@@ -223,17 +227,21 @@ change t (Call.writeSetting user g file line) w k =
       limit = inr (record { user = user; group = g; file = file; line = line; call = refl });
     })
 change t (Call.admit p user) w k =
-    let free : isLive (places t p) ≡ false = untaken-process (t .process p) (search) in
+    let untaken = untaken-process t p (search) in
+    let free : isLive (places t p) ≡ false = untaken .0 in
     placed p (record { place = at 0; user = user })
     (record {
       number = eqb-false p 0 (search);
       low = omega (arith, leb-false);
       stands = inr (record { group = 0; here = refl; alive = w .sound .root; quiet = λ nz. absurd (nz refl) });
       moved = λ g h was e. clash (isLive (places t p)) (rw was) free;
+      unended = λ _. untaken .1;
       heads = came 1 refl (rw (place-free (places t p) free) (omega arith)) tt;
     })
+    refl
 change t (Call.fork p new) w k =
-    let free : isLive (places t new) ≡ false = untaken-process (t .process new) (search) in
+    let untaken = untaken-process t new (search) in
+    let free : isLive (places t new) ≡ false = untaken .0 in
     let here : places t p ≡ at (processGroup t p) = place-live (places t p) (search) in
     placed new (t .process p)
     (record {
@@ -241,18 +249,23 @@ change t (Call.fork p new) w k =
       low = omega (arith, leb-false);
       stands = inr (record { group = _; here = here; alive = process-lives t w p (search); quiet = w .quiet .empty p _ here });
       moved = λ g h was e. clash (isLive (places t new)) (rw was) free;
+      unended = λ _. untaken .1;
       heads = came 1 refl (rw (place-free (places t new) free, here) (omega arith)) tt;
     })
+    (search)
 change t (Call.exit p) w k =
     let here : places t p ≡ at (processGroup t p) = place-live (places t p) (search) in
-    placed p noProcess
+    ended p
     (record {
       number = process-number t w p (search);
       low = w .placed .range p _ here;
       stands = inl refl;
       moved = λ g h was e. let z : _≡_ {A = ℕ} 0 1 = cc in absurd (omega arith);
+      unended = λ a. clash false a refl;
       heads = went 1 refl (sym (ap headcount here));
     })
+    (search)
+change t (Call.collect p) w k = collected p refl (search)
 change t (Call.charge p n) w k =
     let g : ℕ = processGroup t p in
     let l : lives t g ≡ true = process-lives t w p (search) in
@@ -271,10 +284,19 @@ change t (Call.release g n) w k =
 change t (Call.read g file buffer) w k = nothing refl
 change t (Call.membership p buffer) w k = nothing refl
 
+well-formed-placed : (t : Tree) {c : Call} → WellFormed t → (p : ℕ) (v : Process) → Placing t c p v → WellFormed (atProcess t p v)
+well-formed-placed t w p v k =
+    well-formed-after-place t w p v (k .number) (λ h e. (place-stands k h e .0, k .low)) (λ h e. place-stands k h e .1) (place-blank k) (k .unended)
+
 well-formed-change : (t : Tree) {c : Call} {u : Tree} → WellFormed t → Change t c u → WellFormed u
 well-formed-change t w (nothing f) = w
-well-formed-change t w (placed p v k) =
-    well-formed-after-place t w p v (k .number) (λ h e. (place-stands k h e .0, k .low)) (λ h e. place-stands k h e .1) (place-blank k)
+well-formed-change t w (placed p v k l) = well-formed-placed t w p v k
+well-formed-change t w (ended p k l) =
+    let here : places t p ≡ at (processGroup t p) = place-live (places t p) l in
+    well-formed-after-past (atProcess t p noProcess) (well-formed-placed t w p noProcess k) (pastExit t p)
+    (remembered-eq refl refl refl (upd-map (λ x. x .place) (t .process) p noProcess)
+    (remembered-after-exit (w .sound) (w .past) p _ (k .number) (k .low) here (process-lives t w p l)))
+well-formed-change t w (collected p f z) = well-formed-after-past t w (pastCollect t p) (remembered-after-collect (w .sound) (w .past) p)
 well-formed-change t w (altered g v k) =
     well-formed-after-patch t w g v (k .patch)
     (⊎-elim
@@ -282,8 +304,8 @@ well-formed-change t w (altered g v k) =
     (λ x. over-figure _ (t .machine) _ x (machine-acts t))
     (usage-altered t w g v k 0))
 well-formed-change t w (made user parent new f k) =
-    well-formed-after-make t w parent new user (k .above) (k .dead) (k .low) (k .shallow) default-new allowed-new
-well-formed-change t w (removal g f k) = well-formed-after-remove t w g (k .alive) (k .inner) (k .noChild) (k .noProcess)
+    well-formed-after-make t w parent new user (k .above) (made-dead t w k) (made-blank t w k) (k .low) (k .shallow) default-new allowed-new
+well-formed-change t w (removal user g f k) = well-formed-after-remove t w g (k .alive) (k .inner) (k .noChild) (k .noProcess)
 well-formed-change t w (control g line f k) = well-formed-after-control t g _ _ w k
 
 pub well-formed-effect : (t : Tree) (c : Call) → WellFormed t → Pass (checks (factsOf t) c) → WellFormed (effect t c)

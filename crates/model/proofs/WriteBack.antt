@@ -87,7 +87,7 @@ module _ (t : Tree) (well : WellFormed t) (user g : ℕ) (s : Setting) (live : l
         same =
             step-accepted t (writeSetting user g (settingName s) line) accepted-back
             ∙ rw (value-back, k .stands)
-            (ap (λ (f : ℕ → Group). record { machine = t .machine; group = f; process = t .process }) (upd-id (t .group) g));
+            (ap (λ (f : ℕ → Group). record { machine = t .machine; group = f; process = t .process; past = t .past }) (upd-id (t .group) g));
       }
 
 -- The lines of a file.

@@ -120,6 +120,7 @@ enter b (Call.writeSetting user g file line) = enterValue b g (lineValue file li
 enter b (Call.admit p user) = enterPlace b p (at 0)
 enter b (Call.fork p new) = enterPlace b new (b .place p)
 enter b (Call.exit p) = enterPlace b p nowhere
+enter b (Call.collect p) = b
 enter b (Call.charge p n) =
     let g : ℕ = groupOf (b .place p) in
     enterOwn b g (b .group g .own + n)

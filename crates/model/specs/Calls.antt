@@ -1,5 +1,5 @@
 -- The calls, with their arguments as they arrive, and the checks of each in the paper's order: document 01, "Calls and the
--- order of their checks" and "What a reader sees", and order 1. A line of the paper with "either" or "or" is two entries with one
+-- order of their checks" and "What a reader sees", and orders 1 and 5. A line of the paper with "either" or "or" is two entries with one
 -- number. Assumes nothing.
 use Prim.Native.Nat.{ℕ}
 use mathlib.Core.Bool.{not, _&&_}
@@ -9,8 +9,9 @@ use lib.Dec.{eqb, leb, ltb}
 use Rattle.model.specs.Functions.{known, passes, orElse, mapped}
 use Rattle.model.specs.Sizes.{deepest, largestCharge}
 use Rattle.model.specs.Checks.{Check, bar, need, first}
-use Rattle.model.specs.Tree.{Tree, isLive, groupTaken, processTaken, lives, parents, depths, sets, settingsAt, places}
+use Rattle.model.specs.Tree.{Tree, isLive, lives, parents, depths, sets, settingsAt, places, zombies}
 use Rattle.model.specs.Hierarchy.{on, Facts, factsOf}
+use Rattle.model.specs.Zombies.{isZombie, groupTaken, processTaken}
 use Rattle.model.specs.Text.{tooLong, lineWords}
 use Rattle.model.specs.Names.{settingNamed, fileNamed}
 use Rattle.model.specs.Control.{asked, isWanted, hasBadWord, anyController}
@@ -36,6 +37,7 @@ pub data Call : Type 0 where
   admit : (p user : ℕ) → Call
   fork : (parent new : ℕ) → Call
   exit : (p : ℕ) → Call
+  collect : (p : ℕ) → Call
   charge : (p n : ℕ) → Call
   release : (g n : ℕ) → Call
   read : (g : ℕ) (file buffer : List ℕ) → Call
@@ -66,7 +68,7 @@ forkChecks t p new =
     need (isLive (places t p)) Esrch
     ∷ bar (eqb new 0) Einval
     ∷ bar (noProcessNumber new) Einval
-    ∷ bar (processTaken (t .process new)) Eexist
+    ∷ bar (processTaken t new) Eexist
     ∷ []
 
 -- the same of a setting, whose last check asks for room for a device
@@ -95,7 +97,7 @@ checks f (make user parent new) =
     bar (noGroupNumber parent) Einval
     ∷ bar (noGroupNumber new) Einval
     ∷ need (lives (f .tree) parent) Enoent
-    ∷ bar (groupTaken (f .tree .group new)) Eexist
+    ∷ bar (groupTaken (f .tree) new) Eexist
     ∷ need (mayWrite (f .tree) user parent) Eacces
     ∷ bar (leb deepest (depths (f .tree) parent)) Eagain
     ∷ []
@@ -139,11 +141,14 @@ checks f (writeSetting user g file line) = settingChecks (f .tree) user g file l
 checks f (admit p user) =
     bar (eqb p 0) Einval
     ∷ bar (noProcessNumber p) Einval
-    ∷ bar (processTaken (f .tree .process p)) Eexist
+    ∷ bar (processTaken (f .tree) p) Eexist
     ∷ []
 checks f (fork p new) = forkChecks (f .tree) p new ++ roomCheck f Processes 1 p
 checks f (exit p) =
     need (isLive (places (f .tree) p)) Esrch
+    ∷ []
+checks f (collect p) =
+    need (isZombie (zombies (f .tree) p)) Esrch
     ∷ []
 checks f (charge p n) = chargeChecks (f .tree) p n ++ roomCheck f Pages n p
 checks f (release g n) =
@@ -160,7 +165,7 @@ checks f (read g file buffer) =
     ∷ need (fits (fileText f g file) buffer) Enospc
     ∷ []
 checks f (membership p buffer) =
-    need (isLive (places (f .tree) p)) Esrch
+    need (processTaken (f .tree) p) Esrch
     ∷ need (fits (membershipLine (f .tree) p) buffer) Enospc
     ∷ []
 

@@ -23,6 +23,7 @@ caller (Call.writeSetting user g file line) = some user
 caller (Call.admit p user) = none
 caller (Call.fork p new) = none
 caller (Call.exit p) = none
+caller (Call.collect p) = none
 caller (Call.charge p n) = none
 caller (Call.release g n) = none
 caller (Call.read g file buffer) = none

@@ -31,12 +31,13 @@ use Rattle.model.specs.Book.{Book, inBook, freshBook, bookOf}
 use Rattle.model.specs.Lists.{Accepted, log, bookAfter}
 use Rattle.model.specs.Containment.{OwnsInside, Contained, OneKind, NeverAcross}
 use Rattle.model.specs.Marks.{AtLastWrite, MarkIs}
-use Rattle.model.specs.Totals.{Balanced}
+use Rattle.model.specs.Totals.{Balanced, EndedOnce}
 use Rattle.model.specs.DeviceForm.{DeviceForm}
 use Rattle.model.specs.DeviceRules.{DeviceRules}
 use Rattle.model.specs.DeviceBook.{noAccount, accountOf, accountAfter, Accounted}
 use Rattle.model.specs.DeviceReplies.{DeviceRefusal, DeviceReading}
 use Rattle.model.specs.Lengths.{Lengths, ListingReached}
+use Rattle.model.specs.ZombieRules.{LineStands, Taken}
 use Rattle.model.specs.declared.Resource.{Resource}
 use Rattle.model.specs.declared.Resource.the-variants.{Pages, Processes}
 use Rattle.model.specs.declared.Limit.{Limit}
@@ -176,6 +177,9 @@ pub record Demand2 : Type 0 where
   -- order 4: how long cgroup.procs and a membership line get (specs/Lengths.antt)
   pub lengths : (t : Tree) → WellFormed t → Lengths t
   pub listingReached : ListingReached
+  -- order 5: a zombie's membership line stands still, and when a removed group's number is taken (specs/ZombieRules.antt)
+  pub zombieLine : (t : Tree) → WellFormed t → LineStands t
+  pub taken : (t : Tree) → WellFormed t → Taken t
 
 -- Demand 3.
 -- "tree and book are alike in live groups, parents, own pages, usage, both limits, each live process's group and the live
@@ -219,6 +223,8 @@ pub record Demand3 (t : Tree) (b : Book) (cs : List Call) : Type 0 where
       → Accepted (run t xs) c
       → NoneOver r (bookAfter t b (xs ++ (c ∷ []))) (groupOf (bookAfter t b (xs ++ (c ∷ [])) .place p))
   pub balanced : Balanced t (log t cs) (run t cs)
+  -- order 5: who ended was collected or is a zombie
+  pub ended : EndedOnce t (log t cs) (run t cs)
   -- order 1: io.max keeps what the accepted writes gave, and nothing else, and readers see it
   pub devices : Accounted (run t cs) (accountAfter t b (accountOf t) cs)
   pub deviceReading : DeviceReading (run t cs) (accountAfter t b (accountOf t) cs)

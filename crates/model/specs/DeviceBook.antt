@@ -81,6 +81,7 @@ enterRates group a (Call.writeSetting user g file line) = upd a g (ratesWritten 
 enterRates group a (Call.admit p user) = a
 enterRates group a (Call.fork p new) = a
 enterRates group a (Call.exit p) = a
+enterRates group a (Call.collect p) = a
 enterRates group a (Call.charge p n) = a
 enterRates group a (Call.release g n) = a
 enterRates group a (Call.read g file buffer) = a

@@ -4,6 +4,7 @@ pub mod Checks
 pub mod Devices
 pub mod Tree
 pub mod Hierarchy
+pub mod Zombies
 pub mod CommonAncestor
 pub mod Text
 pub mod Names
@@ -29,9 +30,11 @@ pub mod DeviceRules
 pub mod DeviceBook
 pub mod DeviceReplies
 pub mod Lengths
+pub mod ZombieRules
 pub mod Demands
 pub mod Worked
 pub mod Refusals
 pub mod Meetings
 pub mod Outcomes
 pub mod DeviceEvenings
+pub mod ZombieEvenings

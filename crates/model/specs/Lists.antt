@@ -1,5 +1,5 @@
 -- Lists of calls, each on the tree that the one before handed back; the book that is fed the calls with the numbers that they
--- answered; and what "every", "never" and "last" say of the calls of a list. Document 01, "The book of demand 3".
+-- answered; and what "every", "never", "ever" and "last" say of the calls of a list. Document 01, "The book of demand 3".
 -- Assumes nothing.
 use mathlib.Core.List.{List, [], _∷_}
 use mathlib.Core.Logic.{_⊎_}
@@ -31,6 +31,11 @@ Each Q t (c ∷ cs) = Q t c × Each Q (step t c) cs
 -- no call of the list is such a one
 abbrev pub Never : (Tree → Call → Type 0) → Tree → List Call → Type 0
 Never P = Each (λ t c. P t c → ⊥)
+
+-- some call of the list is such a one
+unfoldable pub Ever : (Tree → Call → Type 0) → Tree → List Call → Type 0
+Ever P t [] = ⊥
+Ever P t (c ∷ cs) = P t c ⊎ Ever P (step t c) cs
 
 -- some call of the list is such a one, and Q holds of the last that is
 unfoldable pub Last : (Tree → Call → Type 0) → (Tree → Call → Type 0) → Tree → List Call → Type 0

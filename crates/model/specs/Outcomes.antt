@@ -6,9 +6,8 @@ use Prim.Native.String.{String}
 use mathlib.Core.List.{List, [], _∷_, _++_, map}
 use mathlib.Core.Option.{none}
 use lib.ListN.{length, replicate}
-use Rattle.model.specs.Sizes.{longestMembership}
 use Rattle.model.specs.Text.{bytes}
-use Rattle.model.specs.Calls.{make, remove, handOver, writeSetting, admit, fork, exit, charge, release, read, membership}
+use Rattle.model.specs.Calls.{make, remove, handOver, writeSetting, admit, fork, exit, collect, charge, release, read, membership}
 use Rattle.model.specs.Worked.{Exchange, exchange, succeeds, refuses, granted, stopped, reads, belongs, setting, control, procs, Evening, evening}
 use Rattle.model.specs.Refusals.{allSucceed, allGet, allControllers, unread, begun, descent, deepChain, deepLine}
 
@@ -53,7 +52,7 @@ made =
     ++ allSucceed (handOver 0 1 8 ∷ make 8 1 2 ∷ []) ++ belongs 5 "0::/1\n" ∷ []
     ++ allSucceed (procs 8 2 "5" ∷ control 8 1 allControllers ∷ setting 8 2 "cpu.weight" "6" ∷ setting 8 2 "cpu.max" "3000 4000" ∷ [])
     ++ allSucceed (setting 8 2 "memory.max" "16384" ∷ setting 8 2 "pids.max" "2" ∷ []) ++ granted (charge 5 2) 3 ∷ []
-    ++ allSucceed (exit 5 ∷ control 8 2 "+cpu" ∷ handOver 0 1 7 ∷ remove 7 2 ∷ make 7 1 2 ∷ [])
+    ++ allSucceed (exit 5 ∷ collect 5 ∷ control 8 2 "+cpu" ∷ handOver 0 1 7 ∷ remove 7 2 ∷ make 7 1 2 ∷ [])
     ++ reads 2 "cgroup.subtree_control" "" ∷ reads 2 "cpu.weight" "100\n" ∷ reads 2 "cpu.max" "max 100000\n" ∷ []
     ++ reads 2 "memory.max" "max\n" ∷ reads 2 "pids.max" "max\n" ∷ reads 2 "memory.current" "0\n" ∷ refuses (release 2 1) 34 ∷ []
     ++ reads 1 "cgroup.subtree_control" "cpu io memory pids\n" ∷ reads 1 "memory.current" "12288\n" ∷ []
@@ -137,7 +136,7 @@ ends =
     evening 8
     (allSucceed (make 0 0 1 ∷ make 0 1 255 ∷ control 0 0 allControllers ∷ control 0 1 allControllers ∷ admit 1 7 ∷ [])
     ++ granted (fork 1 1024) 1 ∷ []
-    ++ allSucceed (procs 0 255 "1" ∷ procs 0 255 "1024" ∷ exit 1 ∷ [])
+    ++ allSucceed (procs 0 255 "1" ∷ procs 0 255 "1024" ∷ exit 1 ∷ collect 1 ∷ [])
     ++ allGet 16 (control 0 255 "+cpu" ∷ remove 0 255 ∷ [])
     ++ granted (fork 1024 1) 3 ∷ granted (charge 1024 1) 3 ∷ granted (charge 1 1) 3 ∷ []
     ++ belongs 1 "0::/1/255\n" ∷ belongs 1024 "0::/1/255\n" ∷ reads 255 "cgroup.procs" "1\n1024\n" ∷ []
@@ -148,14 +147,14 @@ ends =
     ++ allSucceed (handOver 0 255 7 ∷ make 7 255 254 ∷ remove 7 254 ∷ remove 0 255 ∷ []))
 
 -- The longest chain. A process at depth 16 is counted in the group at depth 1 and stopped by its limits; its move to another child of that
--- group asks who owns the group. The longest membership line fits its 68 bytes, and not 67.
+-- group asks who owns the group. The longest line of a live process fits its 68 bytes, and not 67.
 abbrev pub farUp : Evening
 farUp =
     evening 8
     (allSucceed (descent 0 deepChain)
     ++ allSucceed (make 0 240 1 ∷ handOver 0 1 7 ∷ control 0 0 "+memory +pids" ∷ admit 5 7 ∷ procs 0 255 "5" ∷ [])
     ++ exchange (membership 5 (replicate 67 1)) 28 none 0 0 (replicate 67 1) ∷ []
-    ++ exchange (membership 5 (replicate longestMembership 1)) 0 none 0 68 (bytes deepLine) ∷ []
+    ++ exchange (membership 5 (replicate 68 1)) 0 none 0 68 (bytes deepLine) ∷ []
     ++ allSucceed (setting 0 240 "memory.max" "4096" ∷ setting 0 240 "pids.max" "1" ∷ []) ++ granted (charge 5 1) 17 ∷ []
     ++ stopped (charge 5 1) 12 240 16 ∷ stopped (fork 5 6) 11 240 16 ∷ reads 240 "memory.current" "4096\n" ∷ []
     ++ readsIn (240 ∷ 247 ∷ 248 ∷ 255 ∷ []) "cgroup.events" "populated 1\n"

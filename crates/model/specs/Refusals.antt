@@ -8,7 +8,7 @@ use mathlib.Core.List.{List, [], _∷_, _++_, map}
 use mathlib.Core.Option.{none}
 use lib.ListN.{length, replicate}
 use Rattle.model.specs.Text.{bytes, space, ended}
-use Rattle.model.specs.Calls.{Call, make, remove, handOver, writeProcs, writeControl, writeSetting, admit, fork, exit, charge, release, read, membership}
+use Rattle.model.specs.Calls.{Call, make, remove, handOver, writeProcs, writeControl, writeSetting, admit, fork, exit, collect, charge, release, read, membership}
 use Rattle.model.specs.Worked.{Exchange, exchange, succeeds, refuses, granted, stopped, sentinels, reads, belongs, setting, control, procs, Evening, evening}
 
 -- calls that all succeed, and calls that all get one number
@@ -62,7 +62,7 @@ descent above (g ∷ gs) = make 0 above g ∷ descent g gs
 abbrev pub deepChain : List ℕ
 deepChain = 240 ∷ 241 ∷ 242 ∷ 243 ∷ 244 ∷ 245 ∷ 246 ∷ 247 ∷ 248 ∷ 249 ∷ 250 ∷ 251 ∷ 252 ∷ 253 ∷ 254 ∷ 255 ∷ []
 
--- the membership line there, the longest that there is
+-- the membership line there, the longest of a live process
 abbrev pub deepLine : String
 deepLine = "0::/240/241/242/243/244/245/246/247/248/249/250/251/252/253/254/255\n"
 
@@ -92,7 +92,7 @@ removing =
     ++ allGet 2 (remove 7 9 ∷ [])
     ++ allGet 13 (remove 7 1 ∷ remove 7 0 ∷ remove 8 2 ∷ [])
     ++ allGet 16 (remove 0 0 ∷ remove 0 1 ∷ remove 7 2 ∷ [])
-    ++ allSucceed (exit 5 ∷ remove 7 2 ∷ [])
+    ++ allSucceed (exit 5 ∷ collect 5 ∷ remove 7 2 ∷ [])
     ++ allGet 2 (remove 7 2 ∷ [])
     ++ allSucceed (make 7 3 2 ∷ handOver 0 3 0 ∷ [])
     ++ allGet 13 (remove 7 2 ∷ [])
@@ -211,8 +211,7 @@ limitForms =
     ++ allGet 22 (map (setting 0 1 "pids.max") ("" ∷ "x" ∷ "1 2" ∷ "1 2 3" ∷ "max max" ∷ "5:" ∷ "/5" ∷ "-1" ∷ []))
     ++ allSucceed (map (λ file. setting 0 1 file "max") ("memory.max" ∷ "pids.max" ∷ [])))
 
--- Admit: 22, 17; "It starts in the root". Fork: 3, 22, 17, 11, where a parent out of range is 3; "Same group and user". Exit: 3;
--- the number is free again.
+-- Admit: 22, 17; "It starts in the root". Fork: 3, 22, 17, 11, where a parent out of range is 3; "Same group and user". Exit: 3.
 abbrev pub births : Evening
 births =
     evening 0
@@ -227,7 +226,7 @@ births =
     ++ stopped (fork 5 7) 11 1 2 ∷ succeeds (setting 0 1 "pids.max" "2") ∷ granted (fork 5 7) 3 ∷ []
     ++ stopped (fork 5 8) 11 1 2 ∷ succeeds (procs 7 3 "7") ∷ belongs 7 "0::/1/3\n" ∷ []
     ++ allGet 3 (exit 0 ∷ exit 9 ∷ exit 1025 ∷ exit 1029 ∷ exit 4294967301 ∷ [])
-    ++ succeeds (exit 7) ∷ refuses (exit 7) 3 ∷ succeeds (admit 7 0) ∷ [])
+    ++ succeeds (exit 7) ∷ refuses (exit 7) 3 ∷ succeeds (collect 7) ∷ succeeds (admit 7 0) ∷ [])
 
 -- Charge: 3, 22, 12, where a process out of range is 3. A machine of no pages refuses every charge.
 abbrev pub charging : Evening

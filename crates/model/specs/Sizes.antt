@@ -17,9 +17,9 @@ deepest = 16
 abbrev pub longestListing : ℕ
 longestListing = 4013
 
--- and no membership line is longer: "0::", for each level a "/" and a number, and a newline
+-- and no membership line is longer: "0::", for each level a "/" and a number, order 5's " (deleted)", and a newline
 abbrev pub longestMembership : ℕ
-longestMembership = 68
+longestMembership = 78
 
 -- "pages of 4,096 bytes"
 abbrev pub pageBytes : ℕ

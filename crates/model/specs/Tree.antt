@@ -1,5 +1,5 @@
--- The tree: document 01, "What the host keeps", and order 1. Every field is a function of the number, and a number that is not taken
--- has one blank value, so that one tree has one description. Assumes nothing.
+-- The tree: document 01, "What the host keeps", and orders 1 and 5. Every field is a function of the number, and a number of which nothing is
+-- kept has one blank value, so that one tree has one description. Assumes nothing.
 use Prim.Native.Nat.{ℕ}
 use mathlib.Core.Bool.{Bool, true, false}
 use mathlib.Core.List.{List, []}
@@ -51,13 +51,25 @@ pub record Process : Type 0 where
   pub place : Place
   pub user : ℕ
 
--- `machine` is document 01's machine size, in pages.
+-- Order 5. What is kept of a removed group while a zombie's path runs through it, a dying cgroup in Linux's word: what the
+-- zombie's membership line needs.
+pub data Remnant : Type 0 where
+  noRemnant : Remnant
+  remnant : (parent depth : ℕ) → Remnant
+
+-- What is kept of the dead: where each zombie ended, nowhere for a number that is no zombie's; and what is left of each group.
+pub record Past : Type 0 where
+  pub zombie : ℕ → Place
+  pub remains : ℕ → Remnant
+
+-- `machine` is document 01's machine size, in pages. The dead stand beside `group` and `process`, which speak of the live alone.
 pub record Tree : Type 0 where
   pub machine : ℕ
   pub group : ℕ → Group
   pub process : ℕ → Process
+  pub past : Past
 
--- What is kept of a number that is not taken.
+-- What is kept of a number that is not live.
 abbrev pub noCore : Core
 noCore = record { live = false; parent = 0; own = 0; limit = λ r. NoLimit }
 
@@ -133,12 +145,15 @@ withLimit Pages l f Processes = f Processes
 withLimit Processes l f Pages = f Pages
 withLimit Processes l f Processes = l
 
--- One group or one process of the tree changed.
+-- One group or one process of the tree changed, or what is kept of the dead.
 abbrev pub atGroup : Tree → ℕ → Group → Tree
-atGroup t g v = record { machine = t .machine; group = upd (t .group) g v; process = t .process }
+atGroup t g v = record { machine = t .machine; group = upd (t .group) g v; process = t .process; past = t .past }
 
 abbrev pub atProcess : Tree → ℕ → Process → Tree
-atProcess t p v = record { machine = t .machine; group = t .group; process = upd (t .process) p v }
+atProcess t p v = record { machine = t .machine; group = t .group; process = upd (t .process) p v; past = t .past }
+
+abbrev pub withPast : Past → Tree → Tree
+withPast d t = record { machine = t .machine; group = t .group; process = t .process; past = d }
 
 -- Parts of a tree, as functions.
 abbrev pub cores : Tree → ℕ → Core
@@ -174,10 +189,8 @@ abbrev pub groupOf : Place → ℕ
 groupOf nowhere = 0
 groupOf (at g) = g
 
--- Whether a number is taken, so that no group is made and no process is born with it. This is another question than whether it is
--- live; in document 01 both have one answer.
-abbrev pub groupTaken : Group → Bool
-groupTaken g = g .core .live
+abbrev pub zombies : Tree → ℕ → Place
+zombies t p = t .past .zombie p
 
-abbrev pub processTaken : Process → Bool
-processTaken p = isLive (p .place)
+abbrev pub remains : Tree → ℕ → Remnant
+remains t g = t .past .remains g

@@ -1,12 +1,13 @@
 -- The rules that every tree keeps which calls can reach, as small records over the functions they speak of: document 01,
--- "What the host keeps". Assumes nothing.
+-- "What the host keeps", and order 5. Assumes nothing.
 use Prim.Native.Nat.{ℕ, suc, _≤_, _<_}
 use mathlib.Core.Bool.{Bool, true, false}
 use mathlib.Core.Logic.{_≢_}
 use mathlib.Core.Path.{_≡_}
 use Rattle.model.specs.Sizes.{groups, processes, deepest, largestMachine}
-use Rattle.model.specs.Tree.{Tree, Group, Process, Place, nowhere, at, Controls, Settings, noGroup, noProcess, groupTaken, processTaken, cores, lives, parents, depths, owners, sets, settingsAt, places}
+use Rattle.model.specs.Tree.{Tree, Group, Process, Place, nowhere, at, Controls, Settings, noGroup, noProcess, Past, noRemnant, isLive, cores, lives, parents, depths, owners, sets, settingsAt, places}
 use Rattle.model.specs.Hierarchy.{onIn, usage}
+use Rattle.model.specs.Zombies.{isRemoved, remnantParent, remnantDepth, thereIn, orRemnant, onPathIn}
 use Rattle.model.specs.Settings.{AtDefault, Allowed}
 use Rattle.model.specs.declared.Controller.{Controller}
 
@@ -42,10 +43,19 @@ pub record Ranges (live : ℕ → Bool) (setting : ℕ → Settings) : Type 0 wh
 pub record NoInternalProcesses (place : ℕ → Place) (set : ℕ → Controls) : Type 0 where
   pub empty : (p g : ℕ) → place p ≡ at g → g ≢ 0 → (c : Controller) → set g c ≡ false
 
--- nothing is kept of a number that is not taken
+-- nothing is kept of a number that is not live, but what order 5 keeps of the dead
 pub record Blank (group : ℕ → Group) (process : ℕ → Process) : Type 0 where
-  pub freeGroup : (g : ℕ) → groupTaken (group g) ≡ false → group g ≡ noGroup
-  pub freeProcess : (p : ℕ) → processTaken (process p) ≡ false → process p ≡ noProcess
+  pub freeGroup : (g : ℕ) → group g .core .live ≡ false → group g ≡ noGroup
+  pub freeProcess : (p : ℕ) → isLive (process p .place) ≡ false → process p ≡ noProcess
+
+-- Order 5, of the dead. On zombies' paths are only live and removed groups, with the depths that a line needs; no group is removed
+-- elsewhere; and what is live is not dead.
+pub record Remembered (live : ℕ → Bool) (parent depth : ℕ → ℕ) (place : ℕ → Place) (d : Past) : Type 0 where
+  pub paths : Sound (thereIn live (d .remains)) (orRemnant remnantParent live parent (d .remains)) (orRemnant remnantDepth live depth (d .remains))
+  pub ended : Placed (thereIn live (d .remains)) (d .zombie)
+  pub needed : (g : ℕ) → isRemoved (d .remains g) ≡ true → onPathIn (orRemnant remnantParent live parent (d .remains)) (d .zombie) g ≡ true
+  pub group : (g : ℕ) → live g ≡ true → d .remains g ≡ noRemnant
+  pub process : (p : ℕ) → isLive (place p) ≡ true → d .zombie p ≡ nowhere
 
 -- "the root's is always 0": its owner
 abbrev pub RootOwned : (ℕ → ℕ) → Type 0
@@ -64,5 +74,6 @@ pub record WellFormed (t : Tree) : Type 0 where
   pub ranges : Ranges (lives t) (settingsAt t)
   pub quiet : NoInternalProcesses (places t) (sets t)
   pub blank : Blank (t .group) (t .process)
+  pub past : Remembered (lives t) (parents t) (depths t) (places t) (t .past)
   pub owned : RootOwned (owners t)
   pub sized : Sized (t .machine) (usage (cores t) 0)

@@ -8,6 +8,7 @@ use Rattle.model.specs.Sizes.{processes}
 use Rattle.model.specs.Checks.{first, Pass}
 use Rattle.model.specs.Tree.{Tree, Process, at, isLive, places, atProcess}
 use Rattle.model.specs.Hierarchy.{factsOf}
+use Rattle.model.specs.Zombies.{processTaken}
 use Rattle.model.specs.Rules.{processGroup}
 use Rattle.model.specs.Calls.{admit, fork, forkChecks, checks, verdict}
 use Rattle.model.specs.Effects.{effect}
@@ -15,7 +16,6 @@ use Rattle.model.specs.Replies.{forkAnswer}
 use Rattle.model.specs.declared.Resource.the-variants.{Processes}
 use Rattle.model.specs.declared.Answer.the-variants.{Done}
 use Rattle.model.proofs.CheckLaws.{first-pass}
-use Rattle.model.proofs.RuleLaws.{untaken-process}
 use Rattle.model.proofs.AmountLaws.{place-live}
 use Rattle.model.proofs.Steps.{passed}
 use Rattle.tree.specs.Layout.{view}
@@ -37,7 +37,7 @@ module _ (xs : List ℕ) (k : Kept xs) (p user : ℕ) (v : verdict (view xs) (ad
       record {
         home = record { kept = k; live = k .formed .sound .root };
         low = leb-false processes p (accepted .1 .0);
-        free = untaken-process (view xs .process p) (accepted .1 .1 .0);
+        free = accepted .1 .1 .0;
       }
 
   pub admitted : (ys : List ℕ) → Seated xs ys p (record { place = at 0; user = user }) → Calling xs ys (admit p user) (verdict (view xs) (admit p user)) Done
@@ -63,9 +63,9 @@ module _ (t : Tree) (p new : ℕ) (q : first (forkChecks t p new) ≡ Done) wher
   unfolding forkChecks Pass
   fork-low = leb-false processes new (before-room .1 .1 .0)
 
-  fork-free : isLive (places t new) ≡ false
+  fork-free : processTaken t new ≡ false
   unfolding forkChecks Pass
-  fork-free = untaken-process (t .process new) (before-room .1 .1 .1 .0)
+  fork-free = before-room .1 .1 .1 .0
 
 -- and g is the group of the parent
 module _ (xs : List ℕ) (p new g : ℕ) (q : first (forkChecks (view xs) p new) ≡ Done) (e : g ≡ processGroup (view xs) p) where

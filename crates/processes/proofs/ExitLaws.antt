@@ -2,19 +2,18 @@
 use Prim.Native.Nat.{ℕ}
 use mathlib.Core.Bool.{true}
 use mathlib.Core.List.{List}
-use mathlib.Core.Path.{_≡_, refl, sym}
+use mathlib.Core.Path.{_≡_, sym}
 use Rattle.model.specs.Checks.{Pass}
-use Rattle.model.specs.Tree.{noProcess, isLive, places}
+use Rattle.model.specs.Tree.{isLive, places}
 use Rattle.model.specs.Calls.{exit, checks, verdict}
 use Rattle.model.specs.Effects.{effect}
 use Rattle.model.specs.declared.Answer.the-variants.{Done}
 use Rattle.model.proofs.Steps.{passed, process-lives}
 use Rattle.tree.specs.Layout.{view}
-use Rattle.tree.specs.Kept.{Kept}
+use Rattle.tree.specs.Kept.{Settled, Kept}
 use Rattle.tree.specs.Calling.{Calling}
-use Rattle.tree.proofs.CallLaws.{call-done}
-use Rattle.processes.specs.Place.{Standing, Seated}
-use Rattle.processes.proofs.PlaceLaws.{applied-seated}
+use Rattle.tree.proofs.CallLaws.{call-done, applied}
+use Rattle.processes.specs.Place.{Standing, endedTree}
 
 -- An exit that the check accepts.
 module _ (xs : List ℕ) (k : Kept xs) (p : ℕ) (v : verdict (view xs) (exit p) ≡ Done) where
@@ -25,6 +24,6 @@ module _ (xs : List ℕ) (k : Kept xs) (p : ℕ) (v : verdict (view xs) (exit p)
   pub exit-standing : Standing xs p
   exit-standing = record { home = record { kept = k; live = process-lives (view xs) (k .formed) p exit-live }; live = exit-live }
 
-  pub exit-done : (ys : List ℕ) → Seated xs ys p noProcess → Calling xs ys (exit p) (verdict (view xs) (exit p)) Done
+  pub exit-done : (ys : List ℕ) → Settled ys (endedTree (view xs) p) → Calling xs ys (exit p) (verdict (view xs) (exit p)) Done
   unfolding effect
-  exit-done ys d = call-done xs k (exit p) v ys _ _ (applied-seated xs ys (exit p) p noProcess k v d refl) (sym v)
+  exit-done ys d = call-done xs k (exit p) v ys _ _ (applied xs k (exit p) v ys d) (sym v)

@@ -2,4 +2,5 @@ pub mod PlaceLaws
 pub mod MoveLaws
 pub mod BirthLaws
 pub mod ExitLaws
+pub mod CollectLaws
 pub mod MigrationLaws

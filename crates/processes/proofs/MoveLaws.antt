@@ -8,7 +8,7 @@ use mathlib.Core.Path.{_≡_, refl, ap, sym, _∙_, subst}
 use lib.Dec.{eqb}
 use Rattle.model.specs.Functions.{pick, weigh}
 use Rattle.model.specs.Sizes.{groups, processes}
-use Rattle.model.specs.Tree.{Tree, at, lives, places, parents, depths, atProcess}
+use Rattle.model.specs.Tree.{Tree, at, lives, places, parents, depths, zombies, atProcess}
 use Rattle.model.specs.Hierarchy.{inside}
 use Rattle.model.specs.Rules.{processGroup}
 use Rattle.model.specs.WellFormed.{Sound}
@@ -18,7 +18,7 @@ use Rattle.model.proofs.ChainLaws.{inside-trans}
 use Rattle.model.proofs.CommonAncestorLaws.{ancestor-of-left, ancestor-of-right}
 use Rattle.model.proofs.AmountLaws.{place-live}
 use Rattle.tree.specs.Layout.{view, sumIn}
-use Rattle.tree.specs.Changes.{ProcessRow, Wrote, AdjustedAt}
+use Rattle.tree.specs.Changes.{LivingRow, Wrote, AdjustedAt}
 use Rattle.tree.specs.Counters.{bottom, ChainOf, Countable, Adjustable}
 use Rattle.tree.specs.declared.chain.Chain.{Chain}
 use Rattle.tree.specs.declared.sum.Counter.the-variants.{Of, Members}
@@ -158,8 +158,16 @@ module _ {xs : List ℕ} {p : ℕ} {source target : Chain} {m : ℕ} (h : Migrat
 
         module _ (vs : List ℕ) (j : AdjustedAt us vs Members (bottom target) 1 0) where
           -- number and group have a row still
-          pub move-rows : ProcessRow vs p × (bottom target < groups)
-          move-rows = (record { long = j .long; low = standing-low xs p (h .moving .from) }, kept-low (h .moving .to))
+          pub move-rows : LivingRow vs p × (bottom target < groups)
+          move-rows = (
+            record {
+              row = record { long = j .long; low = standing-low xs p (h .moving .from) };
+              living =
+                  ap (λ (t : Tree). zombies t p) (j .tree ∙ i .tree ∙ e .tree ∙ d .tree)
+                  ∙ h .moving .to .kept .formed .past .process p (h .moving .from .live);
+            },
+            kept-low (h .moving .to),
+          )
 
           pub moved : (ws : List ℕ) (user : ℕ) → user ≡ view vs .process p .user
               → Wrote vs ws (atProcess (view vs) p (record { place = at (bottom target); user = user })) → Moved xs ws p (bottom target)
@@ -169,6 +177,6 @@ module _ {xs : List ℕ} {p : ℕ} {source target : Chain} {m : ℕ} (h : Migrat
               let was : places (view xs) p ≡ at (bottom source) = place-live (places (view xs) p) (h .moving .from .live) ∙ ap at (sym source-home) in
               let mustered : Mustered zs vs (at (bottom source)) (at (bottom target)) =
               mustered-then (mustered-less zs us (bottom source) (move-less 1 (omega arith)) i) (mustered-more us vs (bottom target) j) in
-              seated xs zs vs ws (h .moving .to .kept) p (standing-low xs p (h .moving .from))
+              seated xs zs vs (h .moving .to .kept) p (standing-low xs p (h .moving .from))
               (record { place = at (bottom target); user = view xs .process p .user })
-              (rw was recounted) (rw was mustered) (rw same at w)
+              (rw was recounted) (rw was mustered) ws (rw same at w)

@@ -6,35 +6,38 @@ use native.Mathlib.Omega.{arith}
 use mathlib.Core.Bool.{true, false}
 use mathlib.Core.List.{List}
 use mathlib.Core.Logic.{_≢_}
-use mathlib.Core.Path.{_≡_, refl, ap, sym, _∙_}
+use mathlib.Core.Path.{_≡_, refl, ap, sym, _∙_, subst}
 use lib.Dec.{eqb}
 use lib.ListN.{length}
 use borrow.Author.Tests.{eq-eqb}
 use Rattle.model.specs.Functions.{upd, weigh}
 use Rattle.model.specs.Sizes.{groups, processes}
-use Rattle.model.specs.Tree.{Tree, Place, nowhere, at, Process, noProcess, groupOf, isLive, cores, places, parents, atProcess}
-use Rattle.model.specs.Hierarchy.{inside, headcount, population}
+use Rattle.model.specs.Tree.{Tree, Place, nowhere, at, Process, noProcess, groupOf, isLive, cores, lives, places, parents, depths, zombies, atProcess}
+use Rattle.model.specs.Hierarchy.{inside, headcount, standing, population}
+use Rattle.model.specs.Zombies.{pathParents}
 use Rattle.model.specs.Rules.{standsIn, processGroup}
+use Rattle.model.specs.WellFormed.{Sound}
 use Rattle.model.specs.Calls.{Call, verdict}
 use Rattle.model.specs.Effects.{effect}
 use Rattle.model.specs.declared.Resource.the-variants.{Pages, Processes}
 use Rattle.model.specs.declared.Answer.the-variants.{Done}
 use Rattle.model.proofs.FunctionLaws.{upd-map, weigh-yes, weigh-no, weigh-zero}
-use Rattle.model.proofs.AmountLaws.{place-live, place-free, population-change}
+use Rattle.model.proofs.AmountLaws.{place-live, place-free, standing-change, population-change}
+use Rattle.model.proofs.ZombieLaws.{untaken-process, path-inside}
 use Rattle.model.proofs.ProcessLaws.{process-range}
 use Rattle.tree.specs.Layout.{treeWords, view, sumIn, Spare}
-use Rattle.tree.specs.Changes.{ProcessRow, Wrote, AdjustedAt, Adjusted}
+use Rattle.tree.specs.Changes.{ProcessRow, LivingRow, Wrote, AdjustedAt, Adjusted, endedSet, processEnded}
 use Rattle.tree.specs.Counters.{Countable, Adjustable}
-use Rattle.tree.specs.Kept.{members, countOf, Kept}
+use Rattle.tree.specs.Kept.{members, countIn, Settled, Kept}
 use Rattle.tree.specs.Calling.{Applied}
 use Rattle.tree.specs.declared.sum.Counter.{Counter}
-use Rattle.tree.specs.declared.sum.Counter.the-variants.{Of, Children, Members}
+use Rattle.tree.specs.declared.sum.Counter.the-variants.{Of, Children, Members, Zombies}
 use Rattle.tree.proofs.AdjustLaws.{counters-apart, sum-adjusted-at}
 use Rattle.tree.proofs.CountLaws.{members-change, member-counted}
 use Rattle.tree.proofs.KeptLaws.{kept-low, countable, adjustable}
 use Rattle.tree.proofs.CallLaws.{applied-as}
 use Rattle.tree.proofs.RoomCallLaws.{sum-after-adjust}
-use Rattle.processes.specs.Place.{Vacant, Standing, Seated}
+use Rattle.processes.specs.Place.{Vacant, Standing, Seated, endedTree}
 
 -- what a process in that place adds to the number inside a
 abbrev pub counted : Tree → Place → ℕ → ℕ
@@ -137,56 +140,73 @@ members-apart = counters-apart Members (Of Processes) (λ e. omega arith)
 processes-apart : Of Processes ≢ Members
 processes-apart = counters-apart (Of Processes) Members (λ e. omega arith)
 
+-- what can be adjusted along a chain still can
+pub still-adjustable : {xs ys : List ℕ} {c : Counter} {g n m : ℕ} → Adjustable xs c g n m → length ys ≡ treeWords → view ys ≡ view xs
+    → ((a : ℕ) → sumIn ys c a ≡ sumIn xs c a) → Adjustable ys c g n m
+still-adjustable {g = g} q l e f =
+    record {
+      long = l;
+      sound = subst (λ (t : Tree). Sound (lives t) (parents t) (depths t)) (sym e) (q .sound);
+      live = subst (λ (t : Tree). lives t g ≡ true) (sym e) (q .live);
+      room = λ a i. rw (f a) (q .room a (subst (λ (t : Tree). inside (parents t) a g ≡ true) e i));
+      enough = λ a i. rw (f a) (q .enough a (subst (λ (t : Tree). inside (parents t) a g ≡ true) e i));
+    }
+
 -- what can be counted there still can
 pub still-countable : {xs ys : List ℕ} {g n m : ℕ} → Countable xs Members g n m → length ys ≡ treeWords → sumIn ys Members g ≡ sumIn xs Members g
     → Countable ys Members g n m
 still-countable q l e = record { long = l; low = q .low; room = rw e (q .room); enough = rw e (q .enough) }
 
--- then the place is stored
-module _ (xs ys us zs : List ℕ) (k : Kept xs) (p : ℕ) (low : p < processes) (v : Process) where
-  pub seated : Recounted xs ys (places (view xs) p) (v .place) → Mustered ys us (places (view xs) p) (v .place)
-      → Wrote us zs (atProcess (view us) p v) → Seated xs zs p v
-  seated d m w =
+-- zombies are counted apart from both
+pub zombies-apart : (Zombies ≢ Of Processes) × (Zombies ≢ Members)
+zombies-apart = (counters-apart Zombies (Of Processes) (λ e. omega arith), counters-apart Zombies Members (λ e. omega arith))
+
+-- what counts live processes counts them where p stands then
+module _ (xs ys us : List ℕ) (k : Kept xs) (p : ℕ) (low : p < processes) (v : Process) (d : Recounted xs ys (places (view xs) p) (v .place))
+    (m : Mustered ys us (places (view xs) p) (v .place)) where
+  -- counts that are not of processes are as before, and count nothing of a place
+  stays : (c : Counter) → c ≢ Of Processes → c ≢ Members → (a : ℕ) → sumIn us c a ≡ countIn (view xs) c a
+  stays c ne nm a = m .other c nm a ∙ d .other c ne a ∙ k .sums c a
+
+  -- the places after it
+  after : upd (places (view xs)) p (v .place) ≡ places (atProcess (view xs) p v)
+  after = sym (upd-map (λ (x : Process). x .place) (view xs .process) p v)
+
+  pub counted-after : (c : Counter) (a : ℕ) → sumIn us c a ≡ countIn (atProcess (view xs) p v) c a
+  counted-after (Of Pages) a =
+      stays (Of Pages) (counters-apart (Of Pages) (Of Processes) (λ e. omega arith)) (counters-apart (Of Pages) Members (λ e. omega arith)) a
+  counted-after Children a =
+      stays Children (counters-apart Children (Of Processes) (λ e. omega arith)) (counters-apart Children Members (λ e. omega arith)) a
+  counted-after Zombies a = stays Zombies (zombies-apart .0) (zombies-apart .1) a
+  counted-after (Of Processes) a =
+      let u : population (cores (view xs)) (upd (places (view xs)) p (v .place)) a ≡ sumIn ys (Of Processes) a =
+      omega (
+        arith,
+        population-change (cores (view xs)) (places (view xs)) p (v .place) a low,
+        d .processes a,
+        k .sums (Of Processes) a,
+      ) in
+      m .other (Of Processes) processes-apart a ∙ sym u ∙ ap (λ (pl : ℕ → Place). population (cores (view xs)) pl a) after
+  counted-after Members a =
+      let u : members (upd (places (view xs)) p (v .place)) a ≡ sumIn us Members a =
+      omega (
+        arith,
+        members-change (places (view xs)) p (v .place) a low,
+        m .members a,
+        d .other Members members-apart a,
+        k .sums Members a,
+      ) in
+      sym u ∙ ap (λ (pl : ℕ → Place). members pl a) after
+
+  -- then the place is stored
+  pub seated : (zs : List ℕ) → Wrote us zs (atProcess (view us) p v) → Seated xs zs p v
+  seated zs w =
       record {
         long = w .long;
         tree = w .tree ∙ ap (λ (t : Tree). atProcess t p v) (m .tree ∙ d .tree);
-        sums = sums-after;
+        sums = λ c a. w .sums c a ∙ counted-after c a;
         spare = w .spare (m .spare (d .spare (k .spare)));
       }
-    where
-      -- counts that are not of processes are as before, and count nothing of a place
-      stays : (c : Counter) → c ≢ Of Processes → c ≢ Members → (a : ℕ) → sumIn zs c a ≡ countOf (cores (view xs)) (places (view xs)) c a
-      stays c ne nm a = w .sums c a ∙ m .other c nm a ∙ d .other c ne a ∙ k .sums c a
-
-      -- the places after it
-      after : upd (places (view xs)) p (v .place) ≡ places (atProcess (view xs) p v)
-      after = sym (upd-map (λ (x : Process). x .place) (view xs .process) p v)
-
-      sums-after : (c : Counter) (a : ℕ) → sumIn zs c a ≡ countOf (cores (view xs)) (places (atProcess (view xs) p v)) c a
-      sums-after (Of Pages) a =
-          stays (Of Pages) (counters-apart (Of Pages) (Of Processes) (λ e. omega arith)) (counters-apart (Of Pages) Members (λ e. omega arith)) a
-      sums-after Children a =
-          stays Children (counters-apart Children (Of Processes) (λ e. omega arith)) (counters-apart Children Members (λ e. omega arith)) a
-      sums-after (Of Processes) a =
-          let u : population (cores (view xs)) (upd (places (view xs)) p (v .place)) a ≡ sumIn ys (Of Processes) a =
-          omega (
-            arith,
-            population-change (cores (view xs)) (places (view xs)) p (v .place) a low,
-            d .processes a,
-            k .sums (Of Processes) a,
-          ) in
-          w .sums (Of Processes) a ∙ m .other (Of Processes) processes-apart a ∙ sym u
-          ∙ ap (λ (pl : ℕ → Place). population (cores (view xs)) pl a) after
-      sums-after Members a =
-          let u : members (upd (places (view xs)) p (v .place)) a ≡ sumIn us Members a =
-          omega (
-            arith,
-            members-change (places (view xs)) p (v .place) a low,
-            m .members a,
-            d .other Members members-apart a,
-            k .sums Members a,
-          ) in
-          w .sums Members a ∙ sym u ∙ ap (λ (pl : ℕ → Place). members pl a) after
 
 -- A birth.
 module _ (xs : List ℕ) (p g : ℕ) (h : Vacant xs p g) where
@@ -198,16 +218,26 @@ module _ (xs : List ℕ) (p g : ℕ) (h : Vacant xs p g) where
       still-countable (countable xs (h .home .kept) g (h .home .live) Members n 0 (omega arith) (omega arith)) (d .long)
       (d .other Members members-apart g)
 
+  -- neither live nor a zombie
+  was-free : (isLive (places (view xs) p) ≡ false) × (zombies (view xs) p ≡ nowhere)
+  was-free = untaken-process (view xs) p (h .free)
+
   -- number and group have a row still
-  pub enter-rows : (ys us : List ℕ) → AdjustedAt ys us Members g 1 0 → ProcessRow us p × (g < groups)
-  enter-rows ys us j = (record { long = j .long; low = h .low }, kept-low (h .home))
+  pub enter-rows : (ys us : List ℕ) → Adjusted xs ys (Of Processes) g 1 0 → AdjustedAt ys us Members g 1 0 → LivingRow us p × (g < groups)
+  enter-rows ys us d j = (
+    record {
+      row = record { long = j .long; low = h .low };
+      living = ap (λ (t : Tree). zombies t p) (j .tree ∙ d .tree) ∙ was-free .1;
+    },
+    kept-low (h .home),
+  )
 
   pub entered : (ys us zs : List ℕ) (user : ℕ) → Adjusted xs ys (Of Processes) g 1 0 → AdjustedAt ys us Members g 1 0
       → Wrote us zs (atProcess (view us) p (record { place = at g; user = user })) → Seated xs zs p (record { place = at g; user = user })
   entered ys us zs user d j w =
-      let was : places (view xs) p ≡ nowhere = place-free (places (view xs) p) (h .free) in
-      seated xs ys us zs (h .home .kept) p (h .low) (record { place = at g; user = user })
-      (rw was (recounted-more xs ys g d)) (rw was (mustered-more ys us g j)) w
+      let was : places (view xs) p ≡ nowhere = place-free (places (view xs) p) (was-free .0) in
+      seated xs ys us (h .home .kept) p (h .low) (record { place = at g; user = user })
+      (rw was (recounted-more xs ys g d)) (rw was (mustered-more ys us g j)) zs w
 
 -- An end.
 module _ (xs : List ℕ) (p : ℕ) (h : Standing xs p) where
@@ -251,13 +281,71 @@ module _ (xs : List ℕ) (p : ℕ) (h : Standing xs p) where
       → Countable ys Members g 0 m
   leave-countable ys g m e d few = still-countable (member-standing g m e few) (d .long) (d .other Members members-apart g)
 
-  pub exited : (ys us zs : List ℕ) (g : ℕ) → g ≡ processGroup (view xs) p → Adjusted xs ys (Of Processes) g 0 1
-      → AdjustedAt ys us Members g 0 1 → Wrote us zs (atProcess (view us) p noProcess) → Seated xs zs p noProcess
-  exited ys us zs g e d j w =
-      let was : places (view xs) p ≡ at g = place-live (places (view xs) p) (h .live) ∙ ap at (sym e) in
-      seated xs ys us zs (h .home .kept) p standing-low noProcess
-      (rw (place-live (places (view xs) p) (h .live)) (left-out ys g e d))
-      (rw was (mustered-less ys us g (leave-countable ys g 1 e d (omega arith)) j)) w
+  -- and a zombie more along its chain, where the live one was taken off
+  module _ (ys us : List ℕ) (g : ℕ) (e : g ≡ processGroup (view xs) p) (d : Adjusted xs ys (Of Processes) g 0 1) (j : AdjustedAt ys us Members g 0 1) where
+    was : places (view xs) p ≡ at g
+    was = place-live (places (view xs) p) (h .live) ∙ ap at (sym e)
+
+    home : lives (view xs) g ≡ true
+    home = rw e (h .home .live)
+
+    tree-still : view us ≡ view xs
+    tree-still = j .tree ∙ d .tree
+
+    zombies-still : (a : ℕ) → sumIn us Zombies a ≡ sumIn xs Zombies a
+    zombies-still a = j .other Zombies (zombies-apart .1) a ∙ d .other Zombies (zombies-apart .0) a
+
+    pub ended-adjustable : (n : ℕ) → n ≤ 1 → Adjustable us Zombies g n 0
+    ended-adjustable n few =
+        still-adjustable (adjustable xs (h .home .kept) g home Zombies n 0 (omega arith) (λ a i. omega arith)) (j .long) tree-still zombies-still
+
+    -- number and group have a row still
+    pub ended-rows : (vs : List ℕ) → Adjusted us vs Zombies g 1 0 → ProcessRow vs p × (g < groups)
+    ended-rows vs z = (record { long = z .long; low = standing-low }, h .home .kept .formed .sound .range g home)
+
+    module _ (vs zs : List ℕ) (z : Adjusted us vs Zombies g 1 0) (w : Wrote vs zs (processEnded (view vs) p g)) where
+      zombies-more : (a : ℕ) → sumIn vs Zombies a ≡ standing (pathParents (view xs)) (upd (zombies (view xs)) p (places (view xs) p)) a
+      zombies-more a =
+          let wf = h .home .kept .formed in
+          let free : zombies (view xs) p ≡ nowhere = wf .past .process p (h .live) in
+          omega (
+            arith,
+            sum-after-adjust us vs g Zombies 1 0 z (λ b i. omega arith) a,
+            weigh-zero (inside (parents (view us)) a g),
+            ap (λ (u : Tree). weigh (inside (parents u) a g) 1) tree-still,
+            zombies-still a,
+            h .home .kept .sums Zombies a,
+            standing-change (pathParents (view xs)) (zombies (view xs)) p (places (view xs) p) a standing-low,
+            ap (λ (l : Place). weigh (inside (pathParents (view xs)) a (groupOf l)) (headcount l)) free,
+            weigh-zero (inside (pathParents (view xs)) a 0),
+            ap (λ (l : Place). weigh (inside (pathParents (view xs)) a (groupOf l)) (headcount l)) was,
+            ap (λ b. weigh b 1) (path-inside (view xs) wf a g home),
+          )
+
+      pub exited : Settled zs (endedTree (view xs) p)
+      exited =
+          record {
+            long = w .long;
+            tree =
+                w .tree ∙ ap (λ (u : Tree). processEnded u p g) (z .tree ∙ tree-still)
+                ∙ ap (λ (l : Place). endedSet (atProcess (view xs) p noProcess) p l) (sym was);
+            sums = λ c a. w .sums c a ∙ sums-after c a;
+            spare = w .spare (z .spare (j .spare (d .spare (h .home .kept .spare))));
+          }
+        where
+          live-after : (c : Counter) (a : ℕ) → c ≢ Zombies → sumIn vs c a ≡ countIn (atProcess (view xs) p noProcess) c a
+          live-after c a ne =
+              z .other c ne a
+              ∙ counted-after xs ys us (h .home .kept) p standing-low noProcess
+              (rw (place-live (places (view xs) p) (h .live)) (left-out ys g e d))
+              (rw was (mustered-less ys us g (leave-countable ys g 1 e d (omega arith)) j)) c a
+
+          sums-after : (c : Counter) (a : ℕ) → sumIn vs c a ≡ countIn (endedTree (view xs) p) c a
+          sums-after (Of Pages) a = live-after (Of Pages) a (counters-apart (Of Pages) Zombies (λ e. omega arith))
+          sums-after (Of Processes) a = live-after (Of Processes) a (counters-apart (Of Processes) Zombies (λ e. omega arith))
+          sums-after Children a = live-after Children a (counters-apart Children Zombies (λ e. omega arith))
+          sums-after Members a = live-after Members a (counters-apart Members Zombies (λ e. omega arith))
+          sums-after Zombies a = zombies-more a
 
 -- An accepted call whose effect is such a change.
 pub applied-seated : (xs ys : List ℕ) (c : Call) (p : ℕ) (v : Process) → Kept xs → verdict (view xs) c ≡ Done → Seated xs ys p v

@@ -5,9 +5,11 @@ use mathlib.Core.Bool.{true, false}
 use mathlib.Core.List.{List}
 use mathlib.Core.Path.{_≡_}
 use Rattle.model.specs.Sizes.{processes}
-use Rattle.model.specs.Tree.{Process, at, atProcess, isLive, parents, places}
+use Rattle.model.specs.Tree.{Tree, Process, at, noProcess, atProcess, withPast, isLive, parents, places}
 use Rattle.model.specs.Hierarchy.{commonAncestor}
+use Rattle.model.specs.Zombies.{processTaken}
 use Rattle.model.specs.Rules.{processGroup}
+use Rattle.model.specs.Effects.{pastExit}
 use Rattle.tree.specs.Layout.{view}
 use Rattle.tree.specs.Counters.{bottom, ChainOf}
 use Rattle.tree.specs.Kept.{Settled, KeptAt}
@@ -17,7 +19,7 @@ use Rattle.tree.specs.declared.chain.Chain.{Chain}
 pub record Vacant (xs : List ℕ) (p g : ℕ) : Type 0 where
   pub home : KeptAt xs g
   pub low : p < processes
-  pub free : isLive (places (view xs) p) ≡ false
+  pub free : processTaken (view xs) p ≡ false
 
 -- a live process
 pub record Standing (xs : List ℕ) (p : ℕ) : Type 0 where
@@ -39,6 +41,10 @@ pub record Migratable (xs : List ℕ) (p : ℕ) (source target : Chain) (m : ℕ
 -- the words stand for the tree where process p is v
 abbrev pub Seated : List ℕ → List ℕ → ℕ → Process → Type 0
 Seated xs ys p v = Settled ys (atProcess (view xs) p v)
+
+-- the tree where process p has ended in its group
+abbrev pub endedTree : Tree → ℕ → Tree
+endedTree t p = withPast (pastExit t p) (atProcess t p noProcess)
 
 -- the process stands in g now, and has the user that it had
 abbrev pub Moved : List ℕ → List ℕ → ℕ → ℕ → Type 0

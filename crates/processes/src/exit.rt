@@ -1,4 +1,4 @@
-// Exit: the end of a process. Its pages stay with its group.
+// Exit: the end of a process. Its pages stay with its group, and it is a zombie there until it is collected.
 ghost use mathlib.Core.Path.{_≡_};
 ghost use Rattle.model.specs.Calls.{exit, verdict};
 ghost use Rattle.tree.specs.Layout.{view};
@@ -26,7 +26,7 @@ fn vet_exit(tree: &Tree, process: ProcessId) -> Answer
     Answer::Done
 }
 
-// The process's number is free afterwards.
+// The process is a zombie afterwards.
 pub fn exit(tree: &mut Tree, process: ProcessId) -> Answer
     requires { ⌜ Kept (now tree) ⌝ }
     ensures { λ r. ⌜ Called (now (tree .entry)) (now (tree .exit)) (exit (process .0)) r ⌝ }

@@ -1,6 +1,6 @@
 // Groups, processes and pages.
 ghost use mathlib.Core.Path.{_≡_};
-ghost use Rattle.model.specs.Calls.{make, remove, handOver, admit, fork, exit, charge, release};
+ghost use Rattle.model.specs.Calls.{make, remove, handOver, admit, fork, exit, collect, charge, release};
 ghost use Rattle.model.specs.Replies.{reply};
 ghost use Rattle.tree.specs.Layout.{view, treeWords};
 ghost use Rattle.tree.specs.Kept.{Kept, Fresh};
@@ -20,6 +20,7 @@ use model::ProcessId;
 use model::Resource;
 use processes::birth::admit;
 use processes::birth::fork;
+use processes::collect::collect;
 use processes::exit::exit;
 use tree::fresh::fresh;
 use tree::layout::Tree;
@@ -90,6 +91,14 @@ pub extern "C" fn ss_exit(tree: &mut Tree, process: u64) -> u32
     ensures { λ r. ⌜ Answered (now (tree .entry)) (now (tree .exit)) (exit process) r ⌝ }
 {
     answer_number(exit(tree, ProcessId(process)))
+}
+
+#[no_mangle]
+pub extern "C" fn ss_collect(tree: &mut Tree, process: u64) -> u32
+    requires { ⌜ Kept (now tree) ⌝ }
+    ensures { λ r. ⌜ Answered (now (tree .entry)) (now (tree .exit)) (collect process) r ⌝ }
+{
+    answer_number(collect(tree, ProcessId(process)))
 }
 
 #[no_mangle]

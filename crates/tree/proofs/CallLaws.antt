@@ -57,12 +57,12 @@ module _ (xs : List ℕ) (k : Kept xs) (c : Call) where
 
     -- stores that change no sum, for an effect that changes nothing that is counted
     pub applied-wrote : (ys : List ℕ) → Wrote xs ys (effect (view xs) c) → SameCores (cores (view xs)) (cores (effect (view xs) c))
-        → places (effect (view xs) c) ≡ places (view xs) → Applied xs ys c
-    applied-wrote ys w same still =
+        → places (effect (view xs) c) ≡ places (view xs) → effect (view xs) c .past ≡ view xs .past → Applied xs ys c
+    applied-wrote ys w same still past =
         applied ys
         (record {
           long = w .long;
           tree = w .tree;
-          sums = λ d g. w .sums d g ∙ k .sums d g ∙ sym (count-same _ _ _ _ same still d g);
+          sums = λ d g. w .sums d g ∙ k .sums d g ∙ sym (count-same _ _ _ _ _ _ same still past d g);
           spare = w .spare (k .spare);
         })

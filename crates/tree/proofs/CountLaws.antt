@@ -2,22 +2,24 @@
 -- live; and members, which go by places. What the last two say of a group. Assumes nothing.
 use Prim.Native.Nat.{ℕ, zero, suc, _+_, _≤_, _<_}
 use native.Mathlib.Omega.{arith}
-use mathlib.Core.Bool.{Bool, true, false, not, _&&_}
+use mathlib.Core.Bool.{Bool, true, false, not, _||_, _&&_}
 use mathlib.Core.Logic.{_≢_}
-use mathlib.Core.Path.{_≡_, refl, ap, ap₂, _∙_}
+use mathlib.Core.Path.{_≡_, refl, ap, ap₂, sym, _∙_, fun-ext}
 use lib.Dec.{eqb}
 use borrow.Author.Tests.{eqb-true, eq-eqb, ne-eqb}
-use Rattle.model.specs.Functions.{upd, weigh, sum, any}
+use Rattle.model.specs.Functions.{pick, upd, weigh, sum}
 use Rattle.model.specs.Sizes.{groups, processes}
-use Rattle.model.specs.Tree.{Tree, Core, Place, nowhere, at, noCore, newCore, cores, places}
-use Rattle.model.specs.Hierarchy.{amount, childOf}
+use Rattle.model.specs.Tree.{Tree, Core, Place, nowhere, at, Past, noCore, newCore, cores, lives, places, zombies}
+use Rattle.model.specs.Hierarchy.{standing, amount, childOf}
+use Rattle.model.specs.Zombies.{remnantParent, pathParents, onPath, groupTaken}
 use Rattle.model.specs.Rules.{standsIn, hasChild, hasProcess}
 use Rattle.model.specs.WellFormed.{Sound, Placed}
-use Rattle.model.proofs.FunctionLaws.{split, whether, clash, and-left, and-right, weigh-yes, weigh-no, sum-ext, sum-change, sum-part, sum-zero, upd-same, upd-other}
+use Rattle.model.proofs.FunctionLaws.{any-counted, split, whether, clash, and-left, and-right, weigh-yes, weigh-no, sum-ext, sum-change, sum-part, sum-zero, upd-same, upd-other}
 use Rattle.model.proofs.AmountLaws.{amount-same, amount-dead}
-use Rattle.tree.specs.Kept.{children, members, countOf, countIn}
+use Rattle.model.proofs.ZombieCounts.{path-counted}
+use Rattle.tree.specs.Kept.{children, members, pathUp, countOf, countIn}
 use Rattle.tree.specs.declared.sum.Counter.{Counter}
-use Rattle.tree.specs.declared.sum.Counter.the-variants.{Of, Children, Members}
+use Rattle.tree.specs.declared.sum.Counter.the-variants.{Of, Children, Members, Zombies}
 
 -- whether a group is a child goes by its parent and by whether it is live
 child-same : (a k : ℕ) (c d : Core) → c .live ≡ d .live → c .parent ≡ d .parent → childOf a k c ≡ childOf a k d
@@ -28,17 +30,26 @@ pub children-same : (s s′ : ℕ → Core) → ((g : ℕ) → s′ g .parent �
 unfolding children
 children-same s s′ e f a = sum-ext groups _ _ (λ k _. ap (λ b. weigh b 1) (child-same a k (s′ k) (s k) (f k) (e k)))
 
--- what is counted goes by parents, who is live, own pages and places
+-- what is counted goes by parents, who is live, own pages and places, and by what is kept of the dead
 pub record SameCores (s s′ : ℕ → Core) : Type 0 where
   pub parent : (g : ℕ) → s′ g .parent ≡ s g .parent
   pub live : (g : ℕ) → s′ g .live ≡ s g .live
   pub own : (g : ℕ) → s′ g .own ≡ s g .own
 
-pub count-same : (s s′ : ℕ → Core) (pl pl′ : ℕ → Place) → SameCores s s′ → pl′ ≡ pl → (c : Counter) (a : ℕ) → countOf s′ pl′ c a ≡ countOf s pl c a
-count-same s s′ pl pl′ same e (Of r) a =
+-- so do zombies, by parents and by who is live
+pub zombies-same : (s s′ : ℕ → Core) (d : Past) → ((g : ℕ) → s′ g .parent ≡ s g .parent) → ((g : ℕ) → s′ g .live ≡ s g .live) → (a : ℕ)
+    → standing (pathUp s′ d) (d .zombie) a ≡ standing (pathUp s d) (d .zombie) a
+zombies-same s s′ d e f a =
+    ap (λ (u : ℕ → ℕ). standing u (d .zombie) a) (fun-ext (λ g i. pick (f g i) (e g i) (remnantParent (d .remains g))))
+
+pub count-same : (s s′ : ℕ → Core) (pl pl′ : ℕ → Place) (d d′ : Past) → SameCores s s′ → pl′ ≡ pl → d′ ≡ d → (c : Counter) (a : ℕ)
+    → countOf s′ pl′ d′ c a ≡ countOf s pl d c a
+count-same s s′ pl pl′ d d′ same e f (Of r) a =
     ap (λ (f : ℕ → Place). amount s′ f r a) e ∙ amount-same s s′ pl (same .parent) (λ g. ap₂ weigh (same .live g) (same .own g)) r a
-count-same s s′ pl pl′ same e Children a = children-same s s′ (same .parent) (same .live) a
-count-same s s′ pl pl′ same e Members a = ap (λ (f : ℕ → Place). members f a) e
+count-same s s′ pl pl′ d d′ same e f Children a = children-same s s′ (same .parent) (same .live) a
+count-same s s′ pl pl′ d d′ same e f Members a = ap (λ (h : ℕ → Place). members h a) e
+count-same s s′ pl pl′ d d′ same e f Zombies a =
+    ap (λ (x : Past). standing (pathUp s′ x) (x .zombie) a) f ∙ zombies-same s s′ d (same .parent) (same .live) a
 
 -- a process that comes to another place is one member of the one less, and of the other more
 pub members-change : (pl : ℕ → Place) (p : ℕ) (l : Place) (a : ℕ) → p < processes
@@ -53,18 +64,13 @@ pub member-counted : (pl : ℕ → Place) (p a : ℕ) → p < processes → stan
 unfolding members
 member-counted pl p a low y = omega (arith, sum-part processes p (λ k. weigh (standsIn (pl k) a) 1) low, weigh-yes (standsIn (pl p) a) 1 y)
 
--- Counted one by one, some number below n passes a test just where the count is not 0.
-any-counted : (n : ℕ) (f : ℕ → Bool) (h : ℕ → ℕ) → ((j : ℕ) → h j ≡ weigh (f j) 1) → not (eqb (sum n h) 0) ≡ any n f
-unfolding any sum
-any-counted zero f h e = refl
-any-counted (suc n) f h e =
-    split (f n)
-    (λ y. rw (y, any, ne-eqb (h n + sum n h) 0 (λ z. omega (arith, e n, weigh-yes (f n) 1 y))))
-    (λ o. let z : h n + sum n h ≡ sum n h = omega (arith, e n, weigh-no (f n) 1 o) in rw (o, any, z) (any-counted n f h e))
-
+-- What the counts say of a group.
 pub hasChild-counted : (t : Tree) (g : ℕ) → not (eqb (countIn t Children g) 0) ≡ hasChild t g
 unfolding hasChild children
 hasChild-counted t g = any-counted groups (λ j. childOf g j (cores t j)) _ (λ j. refl)
+
+pub groupTaken-counted : (t : Tree) (g : ℕ) → lives t g ≡ false → not (eqb (countIn t Zombies g) 0) ≡ groupTaken t g
+groupTaken-counted t g dead = path-counted (pathParents t) (zombies t) g ∙ sym (ap (λ b. b || onPath t g) dead)
 
 pub hasProcess-counted : (t : Tree) (g : ℕ) → not (eqb (countIn t Members g) 0) ≡ hasProcess t g
 unfolding hasProcess members
@@ -92,13 +98,14 @@ module _ (s : ℕ → Core) (pl : ℕ → Place) (depth : ℕ → ℕ) (w : Soun
   stands-live nowhere a live dead = refl
   stands-live (at g) a live dead = split (eqb g a) (λ y. clash (s a .live) (rw (eqb-true g a y) at (live g refl)) dead) (λ n. n)
 
-  -- and a dead group has no child
-  pub count-dead : (c : Counter) (a : ℕ) → s a .live ≡ false → countOf s pl c a ≡ 0
+  -- and a dead group has no child; zombies alone are counted in it
+  pub count-dead : (d : Past) (c : Counter) (a : ℕ) → c ≢ Zombies → s a .live ≡ false → countOf s pl d c a ≡ 0
   unfolding children members
-  count-dead (Of r) a dead = amount-dead s pl depth w q r a dead
-  count-dead Members a dead =
+  count-dead d Zombies a ne dead = absurd (ne refl)
+  count-dead d (Of r) a ne dead = amount-dead s pl depth w q r a dead
+  count-dead d Members a ne dead =
       sum-ext processes _ (λ _. 0) (λ p _. weigh-no _ 1 (stands-live (pl p) a (λ g e. q .group p g e) dead)) ∙ sum-zero processes
-  count-dead Children a dead =
+  count-dead d Children a ne dead =
       sum-ext groups _ (λ _. 0)
       (λ k _. weigh-no _ 1
       (split (childOf a k (s k))

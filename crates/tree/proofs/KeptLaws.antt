@@ -7,8 +7,9 @@ use mathlib.Core.List.{List}
 use mathlib.Core.Path.{_≡_, ap₂, _∙_, fun-ext}
 use Rattle.model.specs.Functions.{weigh, sum, member}
 use Rattle.model.specs.Sizes.{groups, processes, largestMachine, largestCharge}
-use Rattle.model.specs.Tree.{Tree, Core, Place, nowhere, at, groupOf, cores, lives, parents, places}
-use Rattle.model.specs.Hierarchy.{childOf, chain, inside, held, ownPages, headcount, usage, population, amount, factsOf}
+use Rattle.model.specs.Tree.{Tree, Core, Place, nowhere, at, groupOf, cores, lives, parents, places, zombies}
+use Rattle.model.specs.Hierarchy.{childOf, chain, inside, held, ownPages, headcount, standing, usage, population, amount, factsOf}
+use Rattle.model.specs.Zombies.{pathParents}
 use Rattle.model.specs.Rules.{standsIn}
 use Rattle.model.specs.Rooms.{Room, actingLimit, consult, roomFor}
 use Rattle.model.specs.WellFormed.{Sound, WellFormed}
@@ -22,7 +23,7 @@ use Rattle.tree.specs.Counters.{listed, ChainOf, HasParent, Countable, A
 use Rattle.tree.specs.Kept.{children, members, countIn, Kept, KeptAt}
 use Rattle.tree.specs.declared.chain.Chain.{Chain}
 use Rattle.tree.specs.declared.sum.Counter.{Counter}
-use Rattle.tree.specs.declared.sum.Counter.the-variants.{Of, Children, Members}
+use Rattle.tree.specs.declared.sum.Counter.the-variants.{Of, Children, Members, Zombies}
 
 -- A live group has a row.
 pub kept-low : {xs : List ℕ} {g : ℕ} → KeptAt xs g → g < groups
@@ -57,13 +58,14 @@ head-le : (l : Place) → headcount l ≤ 1
 head-le nowhere = omega arith
 head-le (at g) = omega arith
 
-population-few : (s : ℕ → Core) (pl : ℕ → Place) (a : ℕ) → population s pl a ≤ processes
-unfolding population held
-population-few s pl a = sum-ones processes _ (λ p. omega (arith, weigh-le (inside (λ k. s k .parent) a (groupOf (pl p))) (headcount (pl p)), head-le (pl p)))
+standing-few : (up : ℕ → ℕ) (pl : ℕ → Place) (a : ℕ) → standing up pl a ≤ processes
+unfolding held
+standing-few up pl a = sum-ones processes _ (λ p. omega (arith, weigh-le (inside up a (groupOf (pl p))) (headcount (pl p)), head-le (pl p)))
 
 amount-small : (t : Tree) → WellFormed t → (r : Resource) (a : ℕ) → amount (cores t) (places t) r a ≤ largestMachine
+unfolding population
 amount-small t w Pages a = omega (arith, usage-below-root t w a, w .sized .fits, w .sized .size)
-amount-small t w Processes a = omega (arith, population-few (cores t) (places t) a)
+amount-small t w Processes a = omega (arith, standing-few (parents t) (places t) a)
 
 children-few : (s : ℕ → Core) (a : ℕ) → children s a ≤ groups
 unfolding children
@@ -77,6 +79,7 @@ pub count-small : (t : Tree) → WellFormed t → (c : Counter) (a : ℕ) → co
 count-small t w (Of r) a = amount-small t w r a
 count-small t w Children a = omega (arith, children-few (cores t) a)
 count-small t w Members a = omega (arith, members-few (places t) a)
+count-small t w Zombies a = omega (arith, standing-few (pathParents t) (zombies t) a)
 
 -- The groups of a chain are live.
 on-chain-live : {live : ℕ → Bool} {up depth : ℕ → ℕ} (s : Sound live up depth) (g a : ℕ) → live g ≡ true → member a (chain up g) ≡ true → live a ≡ true

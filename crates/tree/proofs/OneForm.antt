@@ -11,7 +11,7 @@ use lib.ListN.{getD}
 use lib.Seq.{ext-getD}
 use borrow.Author.Tests.{eqb-true, eqb-false}
 use Rattle.model.specs.Sizes.{groups, processes}
-use Rattle.model.specs.Tree.{Tree, Group, Process, nowhere, at}
+use Rattle.model.specs.Tree.{Tree, Group, Process, nowhere, at, noRemnant, remnant, zombies, remains}
 use Rattle.model.specs.declared.Resource.the-variants.{Pages, Processes}
 use Rattle.model.specs.declared.Controller.the-variants.{Cpu, Io, Memory, Pids}
 use Rattle.model.proofs.FunctionLaws.{split, whether}
@@ -19,32 +19,62 @@ use Rattle.devices.specs.Slots.{freeSlot}
 use Rattle.devices.specs.declared.slot.Slot.{Slot}
 use Rattle.devices.proofs.LimitWordLaws.{limit-word-is}
 use Rattle.devices.proofs.TableLaws.{same-slots}
-use Rattle.tree.specs.Layout.{front, machineAt, rowWords, treeWords, word, sumField, sumIn, firstFlag, liveField, setField, firstSlot, slotField, used, placeIn, flagIn, slotIn, slotsIn, groupRow, processIn, view, SpareRow}
+use Rattle.tree.specs.Layout.{front, machineAt, rowWords, treeWords, word, sumField, sumIn, firstFlag, liveField, setField, firstSlot, slotField, remnantField, used, endedFrom, placeIn, zombieIn, remnantIn, flagIn, slotIn, slotsIn, groupRow, processIn, view, SpareRow}
 use Rattle.tree.specs.Kept.{countIn, Kept}
 use Rattle.tree.specs.OneForm.{OneForm}
 use Rattle.tree.specs.declared.sum.Counter.{Counter}
-use Rattle.tree.specs.declared.sum.Counter.the-variants.{Of, Children, Members}
-use Rattle.tree.proofs.RowLaws.{process-in}
+use Rattle.tree.specs.declared.sum.Counter.the-variants.{Of, Children, Members, Zombies}
+use Rattle.tree.proofs.LayoutLaws.{place-none, place-at, zombie-not, zombie-at, remnant-none, remnant-is}
+use Rattle.tree.proofs.RowLaws.{process-in, ended-in}
 
 -- A meaning has one word.
-place-word : (v w : ℕ) → placeIn v ≡ placeIn w → v ≡ w
-place-word v w e =
-    split (eqb v 0)
-    (λ y. split (eqb w 0)
-    (λ z. eqb-true v 0 y ∙ sym (eqb-true w 0 z))
-    (λ o. nowhere-at (w - 1) (rw (y, o) at e)))
-    (λ n. split (eqb w 0)
-    (λ z. nowhere-at (v - 1) (sym (rw (n, z) at e)))
-    (λ o. let f : v - 1 ≡ w - 1 = at-is (v - 1) (w - 1) (rw (n, o) at e) in
-    let p : v ≢ 0 = eqb-false v 0 n in
-    let q : w ≢ 0 = eqb-false w 0 o in
-    omega arith))
+place-word : (v w : ℕ) → placeIn v ≡ placeIn w → zombieIn v ≡ zombieIn w → v ≡ w
+place-word v w e z =
+    whether v 0
+    (λ a. whether w 0
+    (λ b. a ∙ sym b)
+    (λ b. elim (decLt w endedFrom) [
+      | yes l ↦ nowhere-at _ (sym (place-none v a) ∙ e ∙ place-at w b l)
+      | no l ↦ nowhere-at _ (sym (zombie-not v (omega arith)) ∙ z ∙ zombie-at w (omega arith))
+    ]))
+    (λ a. elim (decLt v endedFrom) [
+      | yes k ↦ whether w 0
+          (λ b. nowhere-at _ (sym (place-none w b) ∙ sym e ∙ place-at v a k))
+          (λ b. elim (decLt w endedFrom) [
+            | yes l ↦ let f : v - 1 ≡ w - 1 = at-is _ _ (sym (place-at v a k) ∙ e ∙ place-at w b l) in omega arith
+            | no l ↦ nowhere-at _ (sym (zombie-not v k) ∙ z ∙ zombie-at w (omega arith))
+          ])
+      | no k ↦ elim (decLt w endedFrom) [
+        | yes l ↦ nowhere-at _ (sym (zombie-not w l) ∙ sym z ∙ zombie-at v (omega arith))
+        | no l ↦ let f : v - endedFrom ≡ w - endedFrom = at-is _ _ (sym (zombie-at v (omega arith)) ∙ z ∙ zombie-at w (omega arith)) in omega arith
+      ]
+    ])
   where
     nowhere-at : (n : ℕ) → nowhere ≡ at n → v ≡ w
     nowhere-at n e = let z : _≡_ {A = ℕ} 0 1 = cc in absurd (omega arith)
 
     at-is : (m n : ℕ) → at m ≡ at n → m ≡ n
     at-is m n e = cc
+
+remnant-one : (v w : ℕ) → remnantIn v ≡ remnantIn w → v ≡ w
+remnant-one v w e =
+    whether v 0
+    (λ a. whether w 0
+    (λ b. a ∙ sym b)
+    (λ b. none-left _ _ (sym (remnant-none v a) ∙ e ∙ remnant-is w b)))
+    (λ a. whether w 0
+    (λ b. none-left _ _ (sym (remnant-none w b) ∙ sym e ∙ remnant-is v a))
+    (λ b.
+    let f = left-is _ _ _ _ (sym (remnant-is v a) ∙ e ∙ remnant-is w b) in
+    let low : (v - 1) % groups ≡ (w - 1) % groups = f .0 in
+    let high : (v - 1) / groups ≡ (w - 1) / groups = f .1 in
+    omega arith))
+  where
+    none-left : (m n : ℕ) → noRemnant ≡ remnant m n → v ≡ w
+    none-left m n e = let z : _≡_ {A = ℕ} 0 1 = cc in absurd (omega arith)
+
+    left-is : (a b c d : ℕ) → remnant a b ≡ remnant c d → (a ≡ c) × (b ≡ d)
+    left-is a b c d e = (cc, cc)
 
 flag-word : (v w : ℕ) → v ≤ 1 → w ≤ 1 → flagIn v ≡ flagIn w → v ≡ w
 flag-word v w a b e =
@@ -66,7 +96,8 @@ below P zero none k l = absurd (omega arith)
 below P (suc n) (x ▹ b) k l = whether k n (λ e. rw e x) (λ ne. below P n b k (omega arith))
 
 -- a row is its group, its sums and zeros
-module _ (v w : ℕ → ℕ) (a : SpareRow v) (b : SpareRow w) (sums : (c : Counter) → v (sumField c) ≡ w (sumField c)) (e : groupRow v ≡ groupRow w) where
+module _ (v w : ℕ → ℕ) (a : SpareRow v) (b : SpareRow w) (sums : (c : Counter) → v (sumField c) ≡ w (sumField c)) (e : groupRow v ≡ groupRow w)
+    (r : remnantIn (v remnantField) ≡ remnantIn (w remnantField)) where
   flag : (k : ℕ) → firstFlag ≤ k → k < firstSlot → flagIn (v k) ≡ flagIn (w k) → v k ≡ w k
   flag k from to f = flag-word (v k) (w k) (a .flags k from to) (b .flags k from to) f
 
@@ -104,6 +135,7 @@ module _ (v w : ℕ → ℕ) (a : SpareRow v) (b : SpareRow w) (sums : (c : Coun
       ▹ limit-word-is _ _ (ap (λ (g : Group). g .core .limit Processes) e)
       ▹ limit-word-is _ _ (ap (λ (g : Group). g .core .limit Pages) e)
       ▹ ap (λ (g : Group). g .core .parent) e
+      ▹ sums Zombies
       ▹ sums Members
       ▹ sums Children
       ▹ sums (Of Processes)
@@ -112,7 +144,8 @@ module _ (v w : ℕ → ℕ) (a : SpareRow v) (b : SpareRow w) (sums : (c : Coun
 
   places-same : Below (λ k. v k ≡ w k) used
   places-same =
-      and-slot (slotField 3) (slot 3) (and-slot (slotField 2) (slot 2) (and-slot (slotField 1) (slot 1) (and-slot (slotField 0) (slot 0) words-before)))
+      remnant-one _ _ r
+      ▹ and-slot (slotField 3) (slot 3) (and-slot (slotField 2) (slot 2) (and-slot (slotField 1) (slot 1) (and-slot (slotField 0) (slot 0) words-before)))
 
   row-same : (k : ℕ) → k < rowWords → v k ≡ w k
   row-same k l =
@@ -127,13 +160,15 @@ module _ (xs ys : List ℕ) (k : Kept xs) (j : Kept ys) (e : view xs ≡ view ys
 
   words-same : (g i : ℕ) → g < groups → i < rowWords → word xs g i ≡ word ys g i
   words-same g i low l =
-      row-same (word xs g) (word ys g) (k .spare .rows g low) (j .spare .rows g low) (sums-same g) (ap (λ (t : Tree). t .group g) e) i l
+      row-same (word xs g) (word ys g) (k .spare .rows g low) (j .spare .rows g low) (sums-same g) (ap (λ (t : Tree). t .group g) e)
+      (ap (λ (t : Tree). remains t g) e) i l
 
   process-same : (p : ℕ) → p < processes → (getD xs p 0 ≡ getD ys p 0) × (getD xs (processes + p) 0 ≡ getD ys (processes + p) 0)
   process-same p l =
       let f : processIn xs p ≡ processIn ys p = ap (λ (t : Tree). t .process p) e in
       let g = sym (process-in xs p l) ∙ f ∙ process-in ys p l in
-      (place-word _ _ (ap (λ (x : Process). x .place) g), ap (λ (x : Process). x .user) g)
+      let h = sym (ended-in xs p l) ∙ ap (λ (t : Tree). zombies t p) e ∙ ended-in ys p l in
+      (place-word _ _ (ap (λ (x : Process). x .place) g) h, ap (λ (x : Process). x .user) g)
 
   ahead-same : (i : ℕ) → i < front → getD xs i 0 ≡ getD ys i 0
   ahead-same i l =

@@ -14,7 +14,7 @@ use Rattle.model.proofs.FunctionLaws.{split, upd-same, upd-other}
 use Rattle.devices.specs.Slots.{tableOf, Packed, InOrder, rows}
 use Rattle.devices.specs.declared.slot.Slot.{Slot}
 use Rattle.devices.specs.declared.table.Slots.{Slots}
-use Rattle.tree.specs.Layout.{front, rowWords, firstWord, firstSlot, slotWords, slotField, used, word, withWord, slotIn, slotsIn, groupRow, view}
+use Rattle.tree.specs.Layout.{slotsEnd, front, rowWords, firstWord, firstSlot, slotWords, slotField, used, word, withWord, slotIn, slotsIn, groupRow, view}
 use Rattle.tree.specs.Changes.{GroupRow, SlotPut, Slotted, Wrote, ioSet}
 use Rattle.tree.specs.Kept.{KeptAt}
 use Rattle.tree.proofs.RowLaws.{RowPut, row-start, also, group-ext, wrote-slots}
@@ -115,12 +115,12 @@ row-with-slots v w e = group-ext w joined same
     joined : ℕ → ℕ
     joined k = pick (ltb k firstSlot) (v k) (w k)
 
-    same : (k : ℕ) → firstWord ≤ k → k < rowWords → w k ≡ joined k
+    same : (k : ℕ) → firstWord ≤ k → k < slotsEnd → w k ≡ joined k
     same k _ l = split (ltb k firstSlot) (λ y. rw y (e k (ltb-true k firstSlot y))) (λ n. rw n)
 
 module _ {xs as′ bs cs ys : List ℕ} {g : ℕ} (s : Slots) (k : GroupRow xs g) (q : Packed (rows s)) (pa : SlotPut xs as′ g (slotField 0) (s .a))
     (pb : SlotPut as′ bs g (slotField 1) (s .b)) (pc : SlotPut bs cs g (slotField 2) (s .c)) (pd : SlotPut cs ys g (slotField 3) (s .d)) where
-  put : RowPut firstSlot used xs ys g (word ys g)
+  put : RowPut firstSlot slotsEnd xs ys g (word ys g)
   put =
       record {
         long = pd .long;

@@ -7,14 +7,15 @@ use mathlib.Core.Path.{_≡_}
 use lib.ListN.{length}
 use Rattle.model.specs.Functions.{weigh, sum}
 use Rattle.model.specs.Sizes.{groups, processes}
-use Rattle.model.specs.Tree.{Tree, Core, Place, lives, cores, places}
-use Rattle.model.specs.Hierarchy.{amount, childOf}
+use Rattle.model.specs.Tree.{Tree, Core, Place, Past, lives, cores, places}
+use Rattle.model.specs.Hierarchy.{standing, amount, childOf}
+use Rattle.model.specs.Zombies.{remnantParent, orRemnant}
 use Rattle.model.specs.Rules.{standsIn}
 use Rattle.model.specs.Effects.{fresh}
 use Rattle.model.specs.WellFormed.{WellFormed}
 use Rattle.tree.specs.Layout.{treeWords, view, sumIn, Spare}
 use Rattle.tree.specs.declared.sum.Counter.{Counter}
-use Rattle.tree.specs.declared.sum.Counter.the-variants.{Of, Children, Members}
+use Rattle.tree.specs.declared.sum.Counter.the-variants.{Of, Children, Members, Zombies}
 
 -- the live children of a group
 unfoldable pub children : (ℕ → Core) → ℕ → ℕ
@@ -24,16 +25,21 @@ children cs a = sum groups (λ k. weigh (childOf a k (cs k)) 1)
 unfoldable pub members : (ℕ → Place) → ℕ → ℕ
 members ps a = sum processes (λ p. weigh (standsIn (ps p) a) 1)
 
+-- the parents of groups that are there, by what is kept of them
+abbrev pub pathUp : (ℕ → Core) → Past → ℕ → ℕ
+pathUp cs d = orRemnant remnantParent (λ g. cs g .live) (λ g. cs g .parent) (d .remains)
+
 -- what a counter counts in a group
-abbrev pub countOf : (ℕ → Core) → (ℕ → Place) → Counter → ℕ → ℕ
-countOf cs ps (Of r) = amount cs ps r
-countOf cs ps Children = children cs
-countOf cs ps Members = members ps
+abbrev pub countOf : (ℕ → Core) → (ℕ → Place) → Past → Counter → ℕ → ℕ
+countOf cs ps d (Of r) = amount cs ps r
+countOf cs ps d Children = children cs
+countOf cs ps d Members = members ps
+countOf cs ps d Zombies = standing (pathUp cs d) (d .zombie)
 
 abbrev pub countIn : Tree → Counter → ℕ → ℕ
-countIn t = countOf (cores t) (places t)
+countIn t = countOf (cores t) (places t) (t .past)
 
--- every running sum is what its counter counts, and 0 for a number that is not live
+-- every running sum is what its counter counts: 0 for a number that is not live, but for the zombies inside a removed group
 abbrev pub Summed : List ℕ → Tree → Type 0
 Summed xs t = (c : Counter) (g : ℕ) → sumIn xs c g ≡ countIn t c g
 

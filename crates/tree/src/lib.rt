@@ -7,6 +7,7 @@ pub mod group; // what is kept of a group
 pub mod setting; // its settings, their controllers and defaults
 pub mod device; // the slots of io.max
 pub mod sum; // its running sums
+pub mod removed; // what is left of a removed group
 pub mod process; // what is kept of a process
 pub mod fresh; // a fresh tree
 pub mod chain; // chains, by value, and the common ancestor

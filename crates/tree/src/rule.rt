@@ -4,10 +4,11 @@ ghost use Prim.Native.Nat.{_<_};
 ghost use Rattle.model.specs.Sizes.{groups, processes};
 ghost use Rattle.model.specs.Tree.{cores, places};
 ghost use Rattle.model.specs.Hierarchy.{on, childOf};
+ghost use Rattle.model.specs.Zombies.{groupTaken};
 ghost use Rattle.model.specs.Rules.{mayWrite, available, standsIn, hasChild, hasProcess};
 ghost use Rattle.tree.specs.Layout.{view};
 ghost use Rattle.tree.specs.Counters.{HasParent};
-ghost use Rattle.tree.specs.Kept.{KeptAt};
+ghost use Rattle.tree.specs.Kept.{Kept, KeptAt};
 use super::counter::count;
 use super::group::has;
 use super::group::is_live;
@@ -17,6 +18,7 @@ use super::layout::Tree;
 use super::process::is_process;
 use super::process::process_group;
 use super::sum::Counter;
+use super::sum::sum;
 use model::Controller;
 use model::GroupId;
 use model::ProcessId;
@@ -95,4 +97,15 @@ pub fn has_process(t: &Tree, g: GroupId) -> bool
     ensures { λ r. ⌜ r ≡ hasProcess (view (now (t .entry))) (g .0) ⌝ }
 {
     count(t, g, Counter::Members) != 0
+}
+
+// Whether a number is taken, so that no group can be made with it: a live group has it, or a zombie's path runs through it.
+pub fn is_taken(t: &Tree, g: GroupId) -> bool
+    requires { ⌜ Kept (now t) × (g .0 < groups) ⌝ }
+    ensures { λ r. ⌜ r ≡ groupTaken (view (now (t .entry))) (g .0) ⌝ }
+{
+    if is_live(t, g) {
+        return true;
+    }
+    sum(t, g, Counter::Zombies) != 0
 }

@@ -1,5 +1,5 @@
-// The counts in a group's row: what stands inside the group, as Linux's page counters count pages up the hierarchy, and its live
-// children and the live processes in it, which are counted there alone.
+// The counts in a group's row: what stands inside the group, as Linux's page counters count pages up the hierarchy, and the zombies that
+// ended inside; its live children and the live processes in it, which are counted there alone.
 ghost use mathlib.Core.Path.{_≡_};
 ghost use Prim.Native.Nat.{_<_};
 ghost use Rattle.model.specs.Sizes.{groups};
@@ -11,6 +11,7 @@ use super::row::CHILDREN;
 use super::row::MEMBERS;
 use super::row::PAGE_SUM;
 use super::row::PROCESS_SUM;
+use super::row::ZOMBIES;
 use super::row::set_word;
 use model::GroupId;
 use model::Resource;
@@ -23,6 +24,8 @@ pub enum Counter {
     Children,
     // the live processes that stand in the group itself
     Members,
+    // the zombies inside, of a live group or a removed one
+    Zombies,
 }
 
 fn sum_field(c: Counter) -> usize
@@ -35,6 +38,7 @@ fn sum_field(c: Counter) -> usize
         },
         Counter::Children => CHILDREN,
         Counter::Members => MEMBERS,
+        Counter::Zombies => ZOMBIES,
     }
 }
 

@@ -7,7 +7,7 @@ use std::env;
 
 use shootspiral::number::{LAST_GROUP, LAST_PROCESS, LONGEST_REPLY, MAX_DEPTH};
 use shootspiral_bench::Plain;
-use shootspiral_bench::work::{ROOM_FOR_GROUPS, ROOM_FOR_PROCESSES, Run, TIMED_FAMILIES};
+use shootspiral_bench::work::{CHAINS, ROOM_FOR_GROUPS, ROOM_FOR_PROCESSES, Run, TIMED_FAMILIES};
 use shootspiral_check::Linked;
 
 use self::slices::{FOUR_DEVICES, SLICES, Slices};
@@ -27,7 +27,9 @@ the same.
 
 Other trees: batches of {ROOM_FOR_GROUPS} groups or {ROOM_FOR_PROCESSES} processes come and go in a lone column of depth {MAX_DEPTH}; a control
 line goes to {TIMED_FAMILIES} groups below the root in turn, each with two children, and these hold all
-processes; the set is empty before controllers join. A fresh tree is written over another."
+processes; the set is empty before controllers join. Membership lines of zombies are those of the full
+tree when all processes have ended and all groups are removed. A collect that frees a chain finds {CHAINS}
+chains in the tree, one zombie each and no live group. A fresh tree is written over another."
     )
 }
 
@@ -93,6 +95,7 @@ fn rows() -> Vec<Row> {
         row!("make, remove", make_and_remove),
         row!("  the makes, in batches of {ROOM_FOR_GROUPS}", only_makes),
         row!("  the removes, in batches of {ROOM_FOR_GROUPS}", only_removes),
+        row!("  the removes, in batches, a zombie in each", only_removes_with_zombie),
         row!("hand over", hand_overs),
         row!("move between two leaves, by their owner", moves),
         row!("move between two columns, by user 0", moves_across),
@@ -101,12 +104,16 @@ fn rows() -> Vec<Row> {
         row!("control line, all four join", all_join),
         row!("control line, all four leave", all_leave),
         row!("control line, all four are there already", all_stay),
-        row!("admit, exit", admit_and_exit),
+        row!("admit, exit, collect", admit_exit_and_collect),
         row!("  the admits, in batches of {ROOM_FOR_PROCESSES}", only_admits),
         row!("  the exits, in batches of {ROOM_FOR_PROCESSES}", only_exits),
-        row!("fork, exit", fork_and_exit),
+        row!("  the collects, in batches of {ROOM_FOR_PROCESSES}", only_collects),
+        row!("fork, exit, collect", fork_exit_and_collect),
         row!("  the forks, in batches of {ROOM_FOR_PROCESSES}", only_forks),
         row!("  the exits, in batches of {ROOM_FOR_PROCESSES}", only_exits_at_depth),
+        row!("  the collects, in batches of {ROOM_FOR_PROCESSES}", only_collects_at_depth),
+        row!("collect that frees a removed group", only_last_collects),
+        row!("collect that frees a chain of {MAX_DEPTH} removed groups", only_collects_of_chains),
         row!("write memory.max, a figure", setting_writes),
         row!("write io.max, two keys of a device that is held", device_writes),
         row!("write io.max, a device before three, and away", device_comes_and_goes),
@@ -117,6 +124,7 @@ fn rows() -> Vec<Row> {
         row!("read memory.current", usage_reads),
         row!("read io.max, four devices, {devices} bytes", device_reads),
         row!("membership line at depth {MAX_DEPTH}", memberships),
+        row!("membership line of a zombie, group removed", memberships_of_zombies),
         row!("first bad word of a line, none of four", bad_words),
         row!("fresh tree", fresh_trees),
     ]

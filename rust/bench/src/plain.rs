@@ -1,5 +1,5 @@
-//! A host for the same calls as an ordinary Rust program: structs and enums, running sums of pages
-//! and processes for each group, nothing proved. It is what the proved host is timed against.
+//! A host for the same calls as an ordinary Rust program: structs and enums, running sums of pages,
+//! processes and zombies for each group, nothing proved. It is what the proved host is timed against.
 
 mod devices;
 
@@ -18,8 +18,11 @@ const PROCESSES: usize = LAST_PROCESS.0 as usize + 1;
 const PAGE_SHIFT: u32 = PAGE_BYTES.ilog2();
 const NO_GROUP: u64 = u64::MAX;
 
-/// The most bytes of a membership line: "0::", a "/" and a number at each depth, a newline.
-const LONGEST_MEMBERSHIP: usize = 4 + MAX_DEPTH as usize * (2 + LAST_GROUP.0.ilog10() as usize);
+/// What the membership line of a zombie has after the path, once its group was removed.
+const DELETED: &[u8] = b" (deleted)";
+/// The most bytes of a membership line: "0::", a "/" and a number at each depth, that, a newline.
+const LONGEST_MEMBERSHIP: usize =
+    4 + MAX_DEPTH as usize * (2 + LAST_GROUP.0.ilog10() as usize) + DELETED.len();
 /// More bytes than any other file has, but cgroup.procs and io.max.
 const LONGEST_VALUE: usize = 32;
 
@@ -102,6 +105,7 @@ impl Set {
 #[repr(align(64))]
 struct Group {
     is_live: bool,
+    /// A removed group keeps it: zombies may have their path there.
     parent: u8,
     depth: u8,
     set: Set,
@@ -110,9 +114,10 @@ struct Group {
     children: u32,
     members: u32,
     own_pages: u64,
-    /// Pages and live processes in the whole subtree.
+    /// Pages, live processes and zombies in the whole subtree. A removed group still counts zombies.
     usage: u64,
     population: u64,
+    zombies: u64,
     /// The root's is the machine. None wherever the controller is off.
     memory_max: Option<u64>,
     pids_max: Option<u64>,
@@ -141,6 +146,7 @@ impl Group {
             own_pages: 0,
             usage: 0,
             population: 0,
+            zombies: 0,
             memory_max: None,
             pids_max: None,
             cpu_max: None,
@@ -162,10 +168,12 @@ impl Group {
     }
 }
 
+/// What a process number stands for. The group of a zombie may have been removed.
 #[derive(Clone, Copy)]
-struct Process {
-    user: u32,
-    group: u8,
+enum Process {
+    Free,
+    Live { user: u32, group: u8 },
+    Zombie { group: u8 },
 }
 
 #[derive(Clone)]
@@ -173,7 +181,7 @@ pub struct Plain {
     groups: [Group; GROUPS],
     /// Of each group, and not in it: a walk up the groups passes none of this.
     devices: [Devices; GROUPS],
-    processes: [Option<Process>; PROCESSES],
+    processes: [Process; PROCESSES],
 }
 
 impl Plain {
@@ -185,7 +193,7 @@ impl Plain {
         for devices in &mut self.devices {
             devices.clear();
         }
-        self.processes.fill(None);
+        self.processes.fill(Process::Free);
     }
 
     fn live(&self, group: u64) -> Done<&Group> {
@@ -193,8 +201,12 @@ impl Plain {
         if found.is_live { Ok(found) } else { Err(Enoent) }
     }
 
-    fn process(&self, process: u64) -> Done<Process> {
-        self.processes.get(process as usize).copied().flatten().ok_or(Esrch)
+    /// The user and the group of a live process.
+    fn process(&self, process: u64) -> Done<(u32, usize)> {
+        match self.processes.get(process as usize) {
+            Some(&Process::Live { user, group }) => Ok((user, group as usize)),
+            _ => Err(Esrch),
+        }
     }
 
     fn may_write(&self, user: u32, group: usize) -> bool {
@@ -250,18 +262,10 @@ impl Plain {
         }
     }
 
-    fn enter(&mut self, process: u64, entered: Process) {
-        let group = entered.group as usize;
-        self.processes[process as usize] = Some(entered);
+    fn enter(&mut self, process: u64, user: u32, group: usize) {
+        self.processes[process as usize] = Process::Live { user, group: group as u8 };
         self.groups[group].members += 1;
         self.each_up(group, |g| g.population += 1);
-    }
-
-    fn leave(&mut self, process: u64, left: Process) {
-        let group = left.group as usize;
-        self.processes[process as usize] = None;
-        self.groups[group].members -= 1;
-        self.each_up(group, |g| g.population -= 1);
     }
 
     fn try_make(&mut self, user: u32, parent: u64, group: u64) -> Done {
@@ -269,7 +273,8 @@ impl Plain {
             return Err(Einval);
         }
         let depth = self.live(parent)?.depth;
-        if self.groups[group as usize].is_live {
+        let old = &self.groups[group as usize];
+        if old.is_live || old.zombies > 0 {
             return Err(Eexist);
         }
         if !self.may_write(user, parent as usize) {
@@ -322,16 +327,17 @@ impl Plain {
         if words.next().is_some() {
             return Err(Einval);
         }
-        let moved = self.process(number)?;
-        let meeting = || self.common_ancestor(moved.group as usize, group as usize);
-        if user != 0 && (moved.user != user || !self.may_write(user, meeting())) {
+        let (moved, source) = self.process(number)?;
+        let meeting = || self.common_ancestor(source, group as usize);
+        if user != 0 && (moved != user || !self.may_write(user, meeting())) {
             return Err(Eacces);
         }
         if group != 0 && set != Set::EMPTY {
             return Err(Ebusy);
         }
-        self.leave(number, moved);
-        self.enter(number, Process { group: group as u8, ..moved });
+        self.groups[source].members -= 1;
+        self.each_up(source, |g| g.population -= 1);
+        self.enter(number, moved, group as usize);
         Ok(())
     }
 
@@ -430,7 +436,7 @@ impl Plain {
 
     fn try_admit(&mut self, process: u64, user: u32) -> Done {
         self.vet_new(process)?;
-        self.enter(process, Process { user, group: 0 });
+        self.enter(process, user, 0);
         Ok(())
     }
 
@@ -438,29 +444,43 @@ impl Plain {
         match self.processes.get(process as usize) {
             None => Err(Einval),
             Some(_) if process == 0 => Err(Einval),
-            Some(Some(_)) => Err(Eexist),
-            Some(None) => Ok(()),
+            Some(Process::Free) => Ok(()),
+            Some(_) => Err(Eexist),
         }
     }
 
     fn try_fork(&mut self, parent: u64, process: u64) -> Result<u64, Denied> {
-        let forked = self.process(parent)?;
+        let (user, group) = self.process(parent)?;
         self.vet_new(process)?;
         let has_room = |g: &Group| g.pids_max.is_none_or(|max| g.population < max);
         let full = |found| Denied(Eagain, Some(found));
-        let consulted = self.climb(forked.group as usize, has_room).map_err(full)?;
-        self.enter(process, forked);
+        let consulted = self.climb(group, has_room).map_err(full)?;
+        self.enter(process, user, group);
         Ok(consulted)
     }
 
     fn try_exit(&mut self, process: u64) -> Done {
-        let left = self.process(process)?;
-        self.leave(process, left);
+        let (_, group) = self.process(process)?;
+        self.processes[process as usize] = Process::Zombie { group: group as u8 };
+        self.groups[group].members -= 1;
+        self.each_up(group, |g| {
+            g.population -= 1;
+            g.zombies += 1;
+        });
+        Ok(())
+    }
+
+    fn try_collect(&mut self, process: u64) -> Done {
+        let Some(&Process::Zombie { group }) = self.processes.get(process as usize) else {
+            return Err(Esrch);
+        };
+        self.processes[process as usize] = Process::Free;
+        self.each_up(group as usize, |g| g.zombies -= 1);
         Ok(())
     }
 
     fn try_charge(&mut self, process: u64, pages: u64) -> Result<u64, Denied> {
-        let group = self.process(process)?.group as usize;
+        let (_, group) = self.process(process)?;
         if !(1..=MAX_PAGES).contains(&pages) {
             return Err(Einval.into());
         }
@@ -508,12 +528,13 @@ impl Plain {
         }
     }
 
-    /// The processes of the group itself. It looks no further than the last of them.
+    /// The live processes of the group itself. It looks no further than the last of them.
     fn members(&self, group: usize, text: &mut Text<LONGEST_REPLY>) {
-        let is_here = |kept: &Process| kept.group as usize == group;
-        let all = self.processes.iter().enumerate();
-        let here = all.filter(|(_, process)| process.as_ref().is_some_and(is_here));
-        for (process, _) in here.take(self.groups[group].members as usize) {
+        let is_here = |process: &usize| match self.processes[*process] {
+            Process::Live { group: its, .. } => its as usize == group,
+            _ => false,
+        };
+        for process in (1..PROCESSES).filter(is_here).take(self.groups[group].members as usize) {
             text.figure(process as u64, b'\n');
         }
     }
@@ -554,12 +575,18 @@ impl Plain {
     }
 
     fn membership_line(&self, process: u64, text: &mut Text<LONGEST_MEMBERSHIP>) -> Done {
-        let group = self.process(process)?.group as usize;
+        let group = match self.processes.get(process as usize) {
+            Some(&(Process::Live { group, .. } | Process::Zombie { group })) => group as usize,
+            _ => return Err(Esrch),
+        };
         text.bytes(b"0::");
         if group == 0 {
             text.bytes(b"/");
         }
         self.path(group, text);
+        if !self.groups[group].is_live {
+            text.bytes(DELETED);
+        }
         text.bytes(b"\n");
         Ok(())
     }
@@ -710,7 +737,7 @@ fn replied(length: Done<u64>, told: &mut [u64; 1]) -> u32 {
 impl Calls for Plain {
     fn fresh(machine_pages: u64) -> Plain {
         let (groups, devices) = ([Group::FREE; GROUPS], [Devices::NONE; GROUPS]);
-        let mut plain = Plain { groups, devices, processes: [None; PROCESSES] };
+        let mut plain = Plain { groups, devices, processes: [Process::Free; PROCESSES] };
         plain.groups[0] = Group::root(machine_pages);
         plain
     }
@@ -758,6 +785,11 @@ impl Calls for Plain {
     #[inline(never)]
     fn exit(&mut self, process: u64) -> u32 {
         settled(self.try_exit(process))
+    }
+
+    #[inline(never)]
+    fn collect(&mut self, process: u64) -> u32 {
+        settled(self.try_collect(process))
     }
 
     #[inline(never)]

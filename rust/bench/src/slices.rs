@@ -4,10 +4,12 @@ use std::hint::black_box;
 
 use shootspiral::number::{LAST_GROUP, LONGEST_REPLY};
 use shootspiral_bench::work::{
-    ABOVE_LONE_LEAF, Charge, FIRST_DEVICE, LONE_LEAF, Layout, ROOM_FOR_GROUPS, ROOM_FOR_PROCESSES,
-    Renewed, Run, SPARE_GROUP, SPARE_PROCESS, TIMED_FAMILIES, charges, families, full_tree, head,
-    lone_column, must, owner, time, time_apart, word,
+    ABOVE_LONE_LEAF, CHAINS, Charge, FIRST_DEVICE, LONE_LEAF, Layout, ROOM_FOR_GROUPS,
+    ROOM_FOR_PROCESSES, Renewed, Run, SPARE_GROUP, SPARE_PROCESS, TIMED_FAMILIES, begin_in,
+    charges, end_all, end_chains, families, full_tree, head, lone_column, must, of_chain, owner,
+    time, time_apart, time_batch, word,
 };
+use shootspiral_check::Calls;
 
 /// A run is cut into slices, short enough that most are not interrupted.
 pub const SLICES: usize = 50;
@@ -30,13 +32,16 @@ pub const FOUR_DEVICES: &[u8] = b"\
 8:48 rbps=2097152 wbps=1048576 riops=2400 wiops=120
 ";
 
-/// A host with its full tree, one in which a single group holds all processes and a device more, a
-/// lone column, families, and memory for a fresh tree and for replies.
+/// A host with its full tree, one in which a single group holds all processes and a device more, one
+/// that has ended, a lone column, families, an empty tree for chains, and memory for a fresh tree and
+/// for replies.
 pub struct Slices<H: Renewed> {
     host: H,
     crowded: H,
+    ended: H,
     column: H,
     families: H,
+    chains: H,
     memory: H::Memory,
     layout: Layout,
     charges: Vec<Charge>,
@@ -53,12 +58,16 @@ impl<H: Renewed> Slices<H> {
             must(crowded.write_procs(0, leaf, process.to_string().as_bytes()));
         }
         must(crowded.write_setting(0, leaf, b"io.max", FIRST_DEVICE));
+        let mut ended = host.clone();
+        end_all(&mut ended);
         let charges = charges(&layout, MILLION);
         Slices {
             host,
             crowded,
+            ended,
             column: lone_column(),
             families: families(),
+            chains: H::fresh(0),
             memory: H::room(),
             layout,
             charges,
@@ -138,21 +147,46 @@ impl<H: Renewed> Slices<H> {
     }
 
     pub fn only_makes(&mut self, _slice: usize) -> Run {
-        self.makes_and_removes().0
+        self.makes_and_removes()[0]
     }
 
     pub fn only_removes(&mut self, _slice: usize) -> Run {
-        self.makes_and_removes().1
+        self.makes_and_removes()[1]
     }
 
-    fn makes_and_removes(&mut self) -> (Run, Run) {
-        time_apart(
-            &mut self.column,
-            ROUNDS / ROOM_FOR_GROUPS,
-            ROOM_FOR_GROUPS,
-            |column, place| column.make(0, ABOVE_LONE_LEAF, LONE_LEAF + 1 + place),
-            |column, place| column.remove(0, LONE_LEAF + 1 + place),
-        )
+    fn makes_and_removes(&mut self) -> [Run; 2] {
+        time_apart(&mut self.column, ROUNDS / ROOM_FOR_GROUPS, |column| {
+            [make_batch(column), remove_batch(column)]
+        })
+    }
+
+    pub fn only_removes_with_zombie(&mut self, _slice: usize) -> Run {
+        self.removes_and_last_collects()[0]
+    }
+
+    pub fn only_last_collects(&mut self, _slice: usize) -> Run {
+        self.removes_and_last_collects()[1]
+    }
+
+    /// A process ends in every group of a batch, the groups are removed, and their numbers are free
+    /// when it is collected.
+    fn removes_and_last_collects(&mut self) -> [Run; 2] {
+        time_apart(&mut self.column, ROUNDS / ROOM_FOR_GROUPS, |column| {
+            make_batch(column);
+            for place in 0..ROOM_FOR_GROUPS {
+                begin_in(column, 2 + place, LONE_LEAF + 1 + place);
+                must(column.exit(2 + place));
+            }
+            [remove_batch(column), collect_batch(column, ROOM_FOR_GROUPS)]
+        })
+    }
+
+    pub fn only_collects_of_chains(&mut self, _slice: usize) -> Run {
+        let [collects] = time_apart(&mut self.chains, ROUNDS / CHAINS, |chains| {
+            end_chains(chains);
+            [time_batch(chains, CHAINS, |chains, place| chains.collect(of_chain(place)))]
+        });
+        collects
     }
 
     /// To their owners.
@@ -194,29 +228,29 @@ impl<H: Renewed> Slices<H> {
     }
 
     pub fn memory_joins(&mut self, _slice: usize) -> Run {
-        self.control_lines(b"+memory", b"-memory").0
+        self.control_lines(b"+memory", b"-memory")[0]
     }
 
     pub fn memory_leaves(&mut self, _slice: usize) -> Run {
-        self.control_lines(b"+memory", b"-memory").1
+        self.control_lines(b"+memory", b"-memory")[1]
     }
 
     pub fn all_join(&mut self, _slice: usize) -> Run {
-        self.control_lines(b"+cpu +io +memory +pids", b"-cpu -io -memory -pids").0
+        self.control_lines(b"+cpu +io +memory +pids", b"-cpu -io -memory -pids")[0]
     }
 
     pub fn all_leave(&mut self, _slice: usize) -> Run {
-        self.control_lines(b"+cpu +io +memory +pids", b"-cpu -io -memory -pids").1
+        self.control_lines(b"+cpu +io +memory +pids", b"-cpu -io -memory -pids")[1]
     }
 
-    fn control_lines(&mut self, joins: &[u8], leaves: &[u8]) -> (Run, Run) {
-        time_apart(
-            &mut self.families,
-            LONG_ROUNDS / TIMED_FAMILIES,
-            TIMED_FAMILIES,
-            |families, place| families.write_subtree_control(0, head(place), joins),
-            |families, place| families.write_subtree_control(0, head(place), leaves),
-        )
+    fn control_lines(&mut self, joins: &[u8], leaves: &[u8]) -> [Run; 2] {
+        time_apart(&mut self.families, LONG_ROUNDS / TIMED_FAMILIES, |families| {
+            [joins, leaves].map(|line| {
+                time_batch(families, TIMED_FAMILIES, |families, place| {
+                    families.write_subtree_control(0, head(place), line)
+                })
+            })
+        })
     }
 
     pub fn all_stay(&mut self, _slice: usize) -> Run {
@@ -235,58 +269,72 @@ impl<H: Renewed> Slices<H> {
     }
 
     /// In the root.
-    pub fn admit_and_exit(&mut self, _slice: usize) -> Run {
+    pub fn admit_exit_and_collect(&mut self, _slice: usize) -> Run {
         let Slices { host, .. } = self;
-        time(ROUNDS, 2, |_| {
+        time(ROUNDS, 3, |_| {
             let admitted = host.admit(SPARE_PROCESS, 0);
-            u64::from(admitted) << 8 | u64::from(host.exit(SPARE_PROCESS))
+            let ended = host.exit(SPARE_PROCESS);
+            let collected = host.collect(SPARE_PROCESS);
+            u64::from(admitted) << 16 | u64::from(ended) << 8 | u64::from(collected)
         })
         .accepted()
     }
 
     pub fn only_admits(&mut self, _slice: usize) -> Run {
-        self.admits_and_exits().0
+        self.admits_exits_and_collects()[0]
     }
 
     pub fn only_exits(&mut self, _slice: usize) -> Run {
-        self.admits_and_exits().1
+        self.admits_exits_and_collects()[1]
     }
 
-    fn admits_and_exits(&mut self) -> (Run, Run) {
-        time_apart(
-            &mut self.column,
-            ROUNDS / ROOM_FOR_PROCESSES,
-            ROOM_FOR_PROCESSES,
-            |column, place| column.admit(2 + place, 0),
-            |column, place| column.exit(2 + place),
-        )
+    pub fn only_collects(&mut self, _slice: usize) -> Run {
+        self.admits_exits_and_collects()[2]
     }
 
-    pub fn fork_and_exit(&mut self, _slice: usize) -> Run {
+    fn admits_exits_and_collects(&mut self) -> [Run; 3] {
+        time_apart(&mut self.column, ROUNDS / ROOM_FOR_PROCESSES, |column| {
+            [
+                time_batch(column, ROOM_FOR_PROCESSES, |column, place| column.admit(2 + place, 0)),
+                exit_batch(column),
+                collect_batch(column, ROOM_FOR_PROCESSES),
+            ]
+        })
+    }
+
+    pub fn fork_exit_and_collect(&mut self, _slice: usize) -> Run {
         let Slices { host, .. } = self;
-        time(ROUNDS, 2, |place| {
+        time(ROUNDS, 3, |place| {
             let mut told = [0; 2];
             let number = host.fork(place % (SPARE_PROCESS - 1) + 1, SPARE_PROCESS, &mut told);
-            word(number, told) ^ u64::from(host.exit(SPARE_PROCESS)) << 8
+            let ended = host.exit(SPARE_PROCESS);
+            let collected = host.collect(SPARE_PROCESS);
+            word(number, told) ^ u64::from(ended) << 8 ^ u64::from(collected) << 24
         })
     }
 
     pub fn only_forks(&mut self, _slice: usize) -> Run {
-        self.forks_and_exits().0
+        self.forks_exits_and_collects()[0]
     }
 
     pub fn only_exits_at_depth(&mut self, _slice: usize) -> Run {
-        self.forks_and_exits().1
+        self.forks_exits_and_collects()[1]
     }
 
-    fn forks_and_exits(&mut self) -> (Run, Run) {
-        time_apart(
-            &mut self.column,
-            ROUNDS / ROOM_FOR_PROCESSES,
-            ROOM_FOR_PROCESSES,
-            |column, place| column.fork(1, 2 + place, &mut [0; 2]),
-            |column, place| column.exit(2 + place),
-        )
+    pub fn only_collects_at_depth(&mut self, _slice: usize) -> Run {
+        self.forks_exits_and_collects()[2]
+    }
+
+    fn forks_exits_and_collects(&mut self) -> [Run; 3] {
+        time_apart(&mut self.column, ROUNDS / ROOM_FOR_PROCESSES, |column| {
+            [
+                time_batch(column, ROOM_FOR_PROCESSES, |column, place| {
+                    column.fork(1, 2 + place, &mut [0; 2])
+                }),
+                exit_batch(column),
+                collect_batch(column, ROOM_FOR_PROCESSES),
+            ]
+        })
     }
 
     pub fn setting_writes(&mut self, _slice: usize) -> Run {
@@ -383,6 +431,19 @@ impl<H: Renewed> Slices<H> {
         })
     }
 
+    pub fn memberships_of_zombies(&mut self, _slice: usize) -> Run {
+        let Slices { ended, reply, .. } = self;
+        let run = time(ROUNDS, 1, |place| {
+            let mut told = [0; 1];
+            let number = ended.membership(place % (SPARE_PROCESS - 1) + 1, reply, &mut told);
+            word(number, [told[0], u64::from(reply[3])])
+        });
+        let mut told = [0; 1];
+        must(ended.membership(1, reply, &mut told));
+        assert!(reply[..told[0] as usize].ends_with(b" (deleted)\n"), "the group was removed");
+        run
+    }
+
     pub fn bad_words(&mut self, _slice: usize) -> Run {
         let Slices { host, .. } = self;
         time(ROUNDS, 1, |_| {
@@ -399,4 +460,25 @@ impl<H: Renewed> Slices<H> {
             0
         })
     }
+}
+
+/// The groups beside the leaf of the lone column.
+fn make_batch<H: Calls>(column: &mut H) -> Run {
+    time_batch(column, ROOM_FOR_GROUPS, |column, place| {
+        column.make(0, ABOVE_LONE_LEAF, LONE_LEAF + 1 + place)
+    })
+}
+
+fn remove_batch<H: Calls>(column: &mut H) -> Run {
+    time_batch(column, ROOM_FOR_GROUPS, |column, place| column.remove(0, LONE_LEAF + 1 + place))
+}
+
+/// The processes beside process 1.
+fn exit_batch<H: Calls>(column: &mut H) -> Run {
+    time_batch(column, ROOM_FOR_PROCESSES, |column, place| column.exit(2 + place))
+}
+
+/// So many of those that ended.
+fn collect_batch<H: Calls>(column: &mut H, count: u64) -> Run {
+    time_batch(column, count, |column, place| column.collect(2 + place))
 }

@@ -11,8 +11,9 @@
 //!     └ .. a quarter of what groups are left
 //! ```
 //!
-//! A lone column has room for groups and processes, so that each call of a pair that does and undoes
-//! can be timed alone. Families are for the controllers of a group that has few children.
+//! A lone column has room for groups and processes, so that calls that do and undo can each be timed
+//! alone. Families are for the controllers of a group that has few children. In the full tree that has
+//! ended all processes are zombies and all groups but the root are removed.
 
 use std::hint::black_box;
 use std::sync::LazyLock;
@@ -111,6 +112,17 @@ pub fn full_tree<H: Calls>() -> (H, Layout) {
     (host, layout)
 }
 
+/// Ends all processes of the full tree, removes all its groups, and collects nobody.
+pub fn end_all<H: Calls>(host: &mut H) {
+    for process in 1..SPARE_PROCESS {
+        must(host.exit(process));
+    }
+    // A parent has a lower number than its children.
+    for group in (1..=SPARE_GROUP).rev() {
+        must(host.remove(0, group));
+    }
+}
+
 /// Both limits, with room for all that there can be, and three devices.
 fn set_limits<H: Calls>(host: &mut H, group: u64) {
     must(host.write_setting(0, group, b"memory.max", b"1099511627776"));
@@ -139,9 +151,41 @@ pub fn lone_column<H: Calls>() -> H {
         must(host.make(0, above, above + 1));
         set_limits(&mut host, above + 1);
     }
-    must(host.admit(1, owner(0)));
-    must(host.write_procs(0, LONE_LEAF, b"1"));
+    begin_in(&mut host, 1, LONE_LEAF);
     host
+}
+
+/// How many columns of their own there can be, each of one group at each depth.
+pub const CHAINS: u64 = LAST_GROUP.0 / MAX_DEPTH;
+const _: () = assert!(CHAINS <= LAST_PROCESS.0);
+
+/// The process that begins and ends in a chain's deepest group.
+pub fn of_chain(chain: u64) -> u64 {
+    1 + chain
+}
+
+/// Makes all chains in an empty tree, has a process end in the deepest group of each, and removes the
+/// groups again: the numbers of a chain are free when its zombie is collected.
+pub fn end_chains<H: Calls>(host: &mut H) {
+    for chain in 0..CHAINS {
+        let groups = chain * MAX_DEPTH + 1..=(chain + 1) * MAX_DEPTH;
+        let mut above = 0;
+        for group in groups.clone() {
+            must(host.make(0, above, group));
+            above = group;
+        }
+        begin_in(host, of_chain(chain), above);
+        must(host.exit(of_chain(chain)));
+        for group in groups.rev() {
+            must(host.remove(0, group));
+        }
+    }
+}
+
+/// Admits a process and moves it into a group.
+pub fn begin_in<H: Calls>(host: &mut H, process: u64, group: u64) {
+    must(host.admit(process, owner(0)));
+    must(host.write_procs(0, group, process.to_string().as_bytes()));
 }
 
 /// A family is a group below the root and its two children.
@@ -171,9 +215,7 @@ pub fn families<H: Calls>() -> H {
         }
     }
     for process in 1..=LAST_PROCESS.0 {
-        let child = children[process as usize % children.len()];
-        must(host.admit(process, owner(0)));
-        must(host.write_procs(0, child, process.to_string().as_bytes()));
+        begin_in(&mut host, process, children[process as usize % children.len()]);
     }
     host
 }
@@ -263,19 +305,22 @@ pub fn time(rounds: u64, calls_per_round: u64, mut round: impl FnMut(u64) -> u64
     Run { time, calls: rounds * calls_per_round, digest }
 }
 
-/// Times batches of calls, and apart from them the calls that undo each batch.
-pub fn time_apart<H>(
+/// Times a batch of calls, all of which succeed.
+pub fn time_batch<H>(host: &mut H, batch: u64, call: impl Fn(&mut H, u64) -> u32) -> Run {
+    time(batch, 1, |place| u64::from(call(host, place))).accepted()
+}
+
+/// Repeats a step that does batches of calls, one undoing the other, and times each of them apart.
+pub fn time_apart<H, const BATCHES: usize>(
     host: &mut H,
-    batches: u64,
-    batch: u64,
-    does: impl Fn(&mut H, u64) -> u32,
-    undoes: impl Fn(&mut H, u64) -> u32,
-) -> (Run, Run) {
-    let mut sums = (Run::NONE, Run::NONE);
-    for _ in 0..batches {
-        let done = time(batch, 1, |place| u64::from(does(host, place)));
-        let undone = time(batch, 1, |place| u64::from(undoes(host, place)));
-        sums = (sums.0.and(done.accepted()), sums.1.and(undone.accepted()));
+    steps: u64,
+    step: impl Fn(&mut H) -> [Run; BATCHES],
+) -> [Run; BATCHES] {
+    let mut sums = [Run::NONE; BATCHES];
+    for _ in 0..steps {
+        for (sum, run) in sums.iter_mut().zip(step(host)) {
+            *sum = sum.and(run);
+        }
     }
     sums
 }

@@ -70,6 +70,10 @@ impl<A: Around> Calls for A {
         number(self, Call::Exit { process })
     }
 
+    fn collect(&mut self, process: u64) -> u32 {
+        number(self, Call::Collect { process })
+    }
+
     fn charge(&mut self, process: u64, pages: u64, told: &mut [u64; 2]) -> u32 {
         self.make_call(Call::Charge { process, pages }, told)
     }

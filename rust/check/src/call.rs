@@ -17,6 +17,7 @@ pub enum Call {
     Admit { process: u64, user: u32 },
     Fork { parent: u64, process: u64 },
     Exit { process: u64 },
+    Collect { process: u64 },
     Charge { process: u64, pages: u64 },
     Release { group: u64, pages: u64 },
     Read { group: u64, file: Vec<u8>, room: usize },
@@ -57,6 +58,7 @@ impl Call {
             Call::Admit { .. } => "admit",
             Call::Fork { .. } => "fork",
             Call::Exit { .. } => "exit",
+            Call::Collect { .. } => "collect",
             Call::Charge { .. } => "charge",
             Call::Release { .. } => "release",
             Call::Read { .. } => "read",
@@ -93,6 +95,7 @@ impl Call {
             Call::Admit { .. }
             | Call::Fork { .. }
             | Call::Exit { .. }
+            | Call::Collect { .. }
             | Call::Charge { .. }
             | Call::Membership { .. }
             | Call::FirstBadWord { .. } => vec![],
@@ -104,6 +107,7 @@ impl Call {
         match self {
             Call::Admit { process, .. }
             | Call::Exit { process }
+            | Call::Collect { process }
             | Call::Charge { process, .. }
             | Call::Membership { process, .. } => vec![*process],
             Call::Fork { parent, process } => vec![*parent, *process],
@@ -153,6 +157,7 @@ impl Call {
             Call::Admit { process, user } => host.admit(*process, *user),
             Call::Fork { parent, process } => host.fork(*parent, *process, told),
             Call::Exit { process } => host.exit(*process),
+            Call::Collect { process } => host.collect(*process),
             Call::Charge { process, pages } => host.charge(*process, *pages, told),
             Call::Release { group, pages } => host.release(*group, *pages),
             Call::Read { .. } | Call::Membership { .. } | Call::FirstBadWord { .. } => {
@@ -228,6 +233,7 @@ impl fmt::Display for Call {
                 write!(f, "Fork {{ parent: {parent}, process: {process} }}")
             }
             Call::Exit { process } => write!(f, "Exit {{ process: {process} }}"),
+            Call::Collect { process } => write!(f, "Collect {{ process: {process} }}"),
             Call::Charge { process, pages } => {
                 write!(f, "Charge {{ process: {process}, pages: {pages} }}")
             }

@@ -16,6 +16,7 @@ pub trait Calls: Clone {
     fn admit(&mut self, process: u64, user: u32) -> u32;
     fn fork(&mut self, parent: u64, process: u64, told: &mut [u64; 2]) -> u32;
     fn exit(&mut self, process: u64) -> u32;
+    fn collect(&mut self, process: u64) -> u32;
     fn charge(&mut self, process: u64, pages: u64, told: &mut [u64; 2]) -> u32;
     fn release(&mut self, group: u64, pages: u64) -> u32;
     fn read(&self, group: u64, file: &[u8], reply: &mut [u8], told: &mut [u64; 1]) -> u32;

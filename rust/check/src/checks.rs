@@ -50,6 +50,7 @@ checks! {
         22 NEW_ABOVE_LAST "new above 255",
         2 PARENT_NOT_LIVE "parent not live",
         17 NEW_IS_LIVE "new is live",
+        17 NEW_ON_ZOMBIES_PATH "new was removed, and a zombie's path runs through it",
         13 MAY_NOT_WRITE_PARENT "may not write parent",
         11 PARENT_DEEPEST "parent at depth 16",
     }
@@ -78,7 +79,8 @@ checks! {
         22 NOT_A_NUMBER "word is not a number word",
         22 IS_0 "is 0",
         3 PROCESS_ABOVE_LAST "above 1024",
-        3 PROCESS_NOT_LIVE "process not live",
+        3 PROCESS_FREE "process free",
+        3 PROCESS_IS_ZOMBIE "process is a zombie",
         13 NOT_ITS_USER "not the process's user",
         13 MAY_NOT_WRITE_LOWEST "may not write the lowest group on both chains",
         16 HAS_SET "G is not the root and its set is not empty",
@@ -115,22 +117,32 @@ checks! {
         22 IS_0 "is 0",
         22 ABOVE_LAST "above 1024",
         17 IS_LIVE "live",
+        17 IS_ZOMBIE "a zombie",
     }
     fork {
         3 PARENT_OUTSIDE "parent outside 1 to 1024",
-        3 PARENT_NOT_LIVE "parent not live",
+        3 PARENT_FREE "parent free",
+        3 PARENT_IS_ZOMBIE "parent is a zombie",
         22 NEW_IS_0 "new is 0",
         22 NEW_ABOVE_LAST "new above 1024",
         17 NEW_IS_LIVE "new is live",
+        17 NEW_IS_ZOMBIE "new is a zombie",
         11 PIDS_LIMIT "a group on the chain would pass pids.max",
     }
     exit {
         3 OUTSIDE "outside 1 to 1024",
-        3 NOT_LIVE "not live",
+        3 FREE "free",
+        3 IS_ZOMBIE "a zombie",
+    }
+    collect {
+        3 OUTSIDE "outside 1 to 1024",
+        3 FREE "free",
+        3 IS_LIVE "live",
     }
     charge {
         3 OUTSIDE "outside 1 to 1024",
-        3 NOT_LIVE "not live",
+        3 FREE "free",
+        3 IS_ZOMBIE "a zombie",
         22 NO_PAGES "no pages",
         22 TOO_MANY_PAGES "pages above 1048576",
         12 MEMORY_LIMIT "a group on the chain would pass memory.max",
@@ -153,7 +165,7 @@ checks! {
     }
     membership {
         3 OUTSIDE "outside 1 to 1024",
-        3 NOT_LIVE "not live",
+        3 FREE "free",
         28 SHORT_BUFFER "buffer shorter than the reply",
     }
 }
@@ -165,7 +177,11 @@ const NEVER: &[(&[&Check], &[&Check], &str)] = &[
         &[make::PARENT_DEEPEST],
         "what is not live has no depth",
     ),
-    (&[make::NEW_ABOVE_LAST], &[make::NEW_IS_LIVE], "none above 255 is live"),
+    (
+        &[make::NEW_ABOVE_LAST],
+        &[make::NEW_IS_LIVE, make::NEW_ON_ZOMBIES_PATH],
+        "none above 255 is or was live",
+    ),
     (
         &[remove::ABOVE_LAST, remove::NOT_LIVE],
         &[remove::ROOT_NOT_USER_0, remove::IS_ROOT],
@@ -185,10 +201,18 @@ const NEVER: &[(&[&Check], &[&Check], &str)] = &[
     ),
     (
         &[write_procs::NO_WORD, write_procs::MORE_WORDS, write_procs::NOT_A_NUMBER],
-        &[write_procs::PROCESS_ABOVE_LAST, write_procs::PROCESS_NOT_LIVE],
+        &[
+            write_procs::PROCESS_ABOVE_LAST,
+            write_procs::PROCESS_FREE,
+            write_procs::PROCESS_IS_ZOMBIE,
+        ],
         "no number is named",
     ),
-    (&[write_procs::IS_0], &[write_procs::PROCESS_ABOVE_LAST], "0 is not above 1024"),
+    (
+        &[write_procs::IS_0],
+        &[write_procs::PROCESS_ABOVE_LAST, write_procs::PROCESS_IS_ZOMBIE],
+        "0 is not above 1024, and no zombie",
+    ),
     (
         &[write_subtree_control::ABOVE_LAST, write_subtree_control::NOT_LIVE],
         &[
@@ -255,19 +279,23 @@ const NEVER: &[(&[&Check], &[&Check], &str)] = &[
         &[write_setting::PERIOD_RANGE],
         "a malformed word is no figure",
     ),
-    (&[admit::IS_0, admit::ABOVE_LAST], &[admit::IS_LIVE], "none outside 1 to 1024 is live"),
     (
-        &[fork::PARENT_OUTSIDE, fork::PARENT_NOT_LIVE],
+        &[admit::IS_0, admit::ABOVE_LAST],
+        &[admit::IS_LIVE, admit::IS_ZOMBIE],
+        "none outside 1 to 1024 is or was live",
+    ),
+    (
+        &[fork::PARENT_OUTSIDE, fork::PARENT_FREE, fork::PARENT_IS_ZOMBIE],
         &[fork::PIDS_LIMIT],
         "what is not live has no chain",
     ),
     (
         &[fork::NEW_IS_0, fork::NEW_ABOVE_LAST],
-        &[fork::NEW_IS_LIVE],
-        "none outside 1 to 1024 is live",
+        &[fork::NEW_IS_LIVE, fork::NEW_IS_ZOMBIE],
+        "none outside 1 to 1024 is or was live",
     ),
     (
-        &[charge::OUTSIDE, charge::NOT_LIVE],
+        &[charge::OUTSIDE, charge::FREE, charge::IS_ZOMBIE],
         &[charge::MEMORY_LIMIT, charge::MACHINE_SIZE],
         "what is not live has no chain",
     ),
@@ -280,7 +308,7 @@ const NEVER: &[(&[&Check], &[&Check], &str)] = &[
         &[read::SHORT_BUFFER],
         "there is no text",
     ),
-    (&[membership::OUTSIDE, membership::NOT_LIVE], &[membership::SHORT_BUFFER], "there is no text"),
+    (&[membership::OUTSIDE, membership::FREE], &[membership::SHORT_BUFFER], "there is no text"),
 ];
 
 /// Why two checks never hold together, if they do not.

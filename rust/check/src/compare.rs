@@ -1,7 +1,8 @@
 //! The model beside a host, call by call. After every call these are compared: the answer, what was
 //! told, the reply buffer and the bytes after it; and where the call may have changed something, every
-//! file of every live group, one file of every other, and the membership line of every live process.
-//! Now and then all that can be read is, and in large trees only then.
+//! file of every live group, one file of every other, and the membership line of every live process and
+//! of every zombie. Now and then all that can be read is, and in large trees only then, but for zombies'
+//! lines, which are read unless there are many.
 
 use std::collections::BTreeSet;
 use std::fmt;
@@ -41,7 +42,7 @@ const UNTOLD: u64 = u64::MAX;
 pub const ROOM: usize = LONGEST_REPLY + SPARE;
 
 /// In a tree with more than this only those groups and processes are read after a call that it names,
-/// and what is above them.
+/// and what is above them. Zombies are all read, unless there are more than so many.
 const MANY_GROUPS: usize = 64;
 const MANY_PROCESSES: usize = 256;
 
@@ -100,6 +101,9 @@ impl<H: Calls> Pair<H> {
         } else {
             (0..=LAST_GROUP + 1).try_for_each(|group| self.look_at(group))?;
             processes.extend(self.model.live_processes());
+        }
+        if self.model.zombies().count() <= MANY_PROCESSES {
+            processes.extend(self.model.zombies());
         }
         processes.into_iter().try_for_each(|process| self.read_membership(process))
     }
@@ -236,10 +240,12 @@ fn middle(told: &mut [u64; 3]) -> &mut [u64; 1] {
 }
 
 /// The groups where a call can change what is read: those that it names and those that hold the
-/// processes it names, with all above them, and the children of one whose set is written.
+/// processes it names, with all above them, removed ones on a zombie's path too, and the children of
+/// one whose set is written.
 fn near(model: &Model, call: &Call) -> BTreeSet<u64> {
     let mut groups: BTreeSet<u64> = call.groups().into_iter().collect();
     groups.extend(call.processes().iter().filter_map(|&n| Some(model.process(n)?.group)));
+    groups.extend(call.processes().iter().flat_map(|&n| model.path(n)));
     for group in groups.clone() {
         groups.extend(model.chain(group));
     }

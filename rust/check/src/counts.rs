@@ -6,7 +6,7 @@ use std::fmt;
 
 use crate::call::Call;
 use crate::checks::{Check, TABLE, besides, never, with};
-use crate::kinds::{self, KINDS, Kind};
+use crate::kinds::{self, Freed, KINDS, Kind};
 use crate::model::Model;
 
 #[derive(Default)]
@@ -18,11 +18,18 @@ pub struct Counts {
     /// Any two that held in one call.
     together: BTreeSet<(&'static Check, &'static Check)>,
     kinds: BTreeMap<Kind, u64>,
+    /// What the present list has freed.
+    freed: Freed,
 }
 
 impl Counts {
     pub fn new() -> Counts {
         Counts::default()
+    }
+
+    /// Begins another list.
+    pub fn begin(&mut self) {
+        self.freed = Freed::default();
     }
 
     /// Counts a call that the model is about to answer: which check refuses it, and which hold
@@ -36,7 +43,9 @@ impl Counts {
         for (place, first) in held.iter().enumerate() {
             self.together.extend(held[place + 1..].iter().map(|second| (*first, *second)));
         }
-        for kind in kinds::of_call(model, call, &held) {
+        let mut kinds = kinds::of_call(model, call, &held);
+        kinds.extend(self.freed.follow(model, call, &held));
+        for kind in kinds {
             *self.kinds.entry(kind).or_default() += 1;
         }
     }

@@ -1,7 +1,7 @@
 //! A list of calls, two for each pair of checks that can hold in one call: on a tree where every
 //! check can, all arguments of a short list each are tried with all others. Dice come to most pairs;
 //! this leaves none to them. On the same tree go on the lists of [`sizes`], [`names`], [`depths`],
-//! [`effects`] and [`devices`].
+//! [`effects`], [`devices`] and [`zombies`].
 
 use std::collections::BTreeMap;
 
@@ -10,7 +10,7 @@ use crate::calls::Calls;
 use crate::checks::{Check, TABLE, besides, never, with};
 use crate::compare::{FILES, ROOM};
 use crate::model::{DEEPEST, LAST_GROUP, LAST_PROCESS, Model};
-use crate::{depths, devices, effects, names, sizes};
+use crate::{depths, devices, effects, names, sizes, zombies};
 
 pub const MACHINE: u64 = 64;
 
@@ -18,14 +18,15 @@ pub const MACHINE: u64 = 64;
 /// the last, and all have three digits, as a membership line is longest.
 pub const LADDER: u64 = LAST_GROUP + 1 - DEEPEST as u64;
 
-/// Some that are in `tree`, one that is not live, and two above the last.
-const GROUPS: [u64; 11] = [0, 1, 2, 3, 4, 5, LADDER, LAST_GROUP, 100, LAST_GROUP + 1, u64::MAX];
-const PROCESSES: [u64; 6] = [0, 5, 6, 9, LAST_PROCESS, LAST_PROCESS + 1];
+/// Some that are in `tree`, two that were, one that is not live, and two above the last.
+const GROUPS: [u64; 13] =
+    [0, 1, 2, 3, 4, 5, 6, 7, LADDER, LAST_GROUP, 100, LAST_GROUP + 1, u64::MAX];
+const PROCESSES: [u64; 8] = [0, 5, 6, 7, 8, 9, LAST_PROCESS, LAST_PROCESS + 1];
 const USERS: [u32; 3] = [0, 7, 8];
 const PAGES: [u64; 5] = [0, 1, 1_048_576, 1_048_577, u64::MAX];
 /// The settings that take figures, and a file that is none.
 const SETTINGS: [&str; 5] = ["memory.max", "pids.max", "cpu.weight", "cpu.max", "io.weight"];
-const NUMBERS: [&str; 7] = ["0", "5", "6", "9", "1024", "1025", "x"];
+const NUMBERS: [&str; 9] = ["0", "5", "6", "7", "8", "9", "1024", "1025", "x"];
 const FIGURES: [&str; 5] = ["0", "1000", "9999999999999999", "max", "x"];
 /// Words of io.max, where the first device is a fifth.
 const DEVICES: [&str; 6] = ["9:0", "256:0", "rbps=1", "wbps=0", "riops=max", "x"];
@@ -46,13 +47,14 @@ pub fn calls() -> Vec<Call> {
     calls.extend(depths::calls(&model));
     calls.extend(effects::calls());
     calls.extend(devices::calls());
+    calls.extend(zombies::calls());
     calls
 }
 
 /// Groups 1 to 4 are user 7's; 2 and 3, below it, have cpu in their sets, and neither io nor pids is
 /// on there. So has 5 beside them, user 0's. Group 1 holds four devices. Processes 5 and 6, user 7's
-/// and user 8's, stand in 4 and find no room above it; 9, user 7's, is in the root. The ladder goes
-/// down from the root.
+/// and user 8's, stand in 4 and find no room above it; 9, user 7's, is in the root. Zombies are 7 in
+/// group 7, which was removed, as was 6 above it, and 8 in group 4. The ladder goes down from the root.
 fn tree() -> Vec<Call> {
     let make = |user, parent, group| Call::Make { user, parent, group };
     let control =
@@ -83,6 +85,16 @@ fn tree() -> Vec<Call> {
         Call::Admit { process: 9, user: 7 },
         procs(4, "5"),
         procs(4, "6"),
+        make(0, 1, 6),
+        make(0, 6, 7),
+        Call::Admit { process: 7, user: 7 },
+        Call::Admit { process: 8, user: 7 },
+        procs(7, "7"),
+        procs(4, "8"),
+        Call::Exit { process: 7 },
+        Call::Exit { process: 8 },
+        Call::Remove { user: 0, group: 7 },
+        Call::Remove { user: 0, group: 6 },
         Call::Charge { process: 5, pages: 3 },
         limit("memory.max"),
         limit("pids.max"),
@@ -166,6 +178,7 @@ fn every(name: &str) -> Vec<Call> {
             by_process(&|parent| PROCESSES.map(|process| Call::Fork { parent, process }).to_vec())
         }
         "exit" => by_process(&|process| vec![Call::Exit { process }]),
+        "collect" => by_process(&|process| vec![Call::Collect { process }]),
         "charge" => {
             by_process(&|process| PAGES.map(|pages| Call::Charge { process, pages }).to_vec())
         }

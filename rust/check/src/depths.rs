@@ -73,7 +73,8 @@ fn pids_limits(group: u64) -> Vec<Call> {
     let fork = Call::Fork { parent: PARENT, process: CHILD };
     let mut calls = vec![pids(group, 1), fork.clone(), pids(group, 2), fork.clone()];
     calls.extend([pids(group, 1), Call::Fork { parent: CHILD, process: CHILD + 1 }]);
-    calls.extend([Call::Exit { process: CHILD }, pids(group, 0), fork]);
+    calls.extend([Call::Exit { process: CHILD }, Call::Collect { process: CHILD }]);
+    calls.extend([pids(group, 0), fork]);
     calls.push(set(group, "pids.max", "max"));
     calls
 }

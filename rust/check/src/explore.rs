@@ -92,6 +92,7 @@ fn follow<H: Calls>(
 ) -> Option<Found> {
     let mut pair = Pair::beside(machine, host);
     let mut calls = vec![];
+    counts.begin();
     let found = |calls, difference| Some(Found { name: name.into(), machine, calls, difference });
     for place in 1..=length {
         let call = next(pair.model());

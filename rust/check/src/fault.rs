@@ -17,6 +17,7 @@ mod outcomes;
 mod readers;
 mod sizes;
 mod table;
+mod zombies;
 
 /// What a wrong host does otherwise.
 #[derive(Clone, Copy)]
@@ -60,7 +61,8 @@ struct Outcome<'a> {
     after: &'a mut Model,
     number: &'a mut u32,
     told: &'a mut [u64; 2],
-    /// The settings of groups that were removed, for a host that does not forget them.
+    /// The settings of groups that were removed, for a host that does not forget them, or forgets
+    /// too late that there were any.
     removed: &'a mut BTreeMap<u64, Settings>,
 }
 

@@ -1,6 +1,7 @@
 //! A list of calls for which a seed's are too few: every group and every process live, counts at their
 //! ends and the longest texts; processes that go about; then all groups but those of the ladder removed
-//! and made again below the root, with settings that one line resets in all of them.
+//! and made again below the root, with settings that one line resets in all of them; at last every
+//! process a zombie, and the group of all of them removed.
 
 use crate::call::Call;
 use crate::compare::ROOM;
@@ -21,6 +22,7 @@ pub fn calls() -> Vec<Call> {
     calls.extend(visits());
     calls.extend(made_again());
     calls.extend(departures());
+    calls.extend(endings());
     calls
 }
 
@@ -53,7 +55,8 @@ fn processes() -> Vec<Call> {
     calls.push(Call::Admit { process: LAST_PROCESS + 1, user: 7 });
     calls.push(Call::Admit { process: LAST_PROCESS, user: 7 });
     for limit in [LAST_PROCESS - 1, LAST_PROCESS, LAST_PROCESS + 1] {
-        calls.extend([pids(BOTTOM, limit), Call::Exit { process: 512 }, fork(2, 512)]);
+        calls.extend([pids(BOTTOM, limit), exit(512), fork(2, 512)]);
+        calls.extend([collect(512), fork(2, 512)]);
         calls.extend([pids(BOTTOM, LAST_PROCESS), fork(2, 512)]);
     }
     calls
@@ -82,7 +85,7 @@ fn visits() -> Vec<Call> {
         (LAST_PROCESS / 2..=LAST_PROCESS).step_by(16).zip((1..LADDER).step_by(7))
     {
         calls.extend([enter(group, process), Call::Charge { process, pages: group }]);
-        calls.extend([Call::Exit { process: process - 1 }, fork(process, process - 1)]);
+        calls.extend([exit(process - 1), collect(process - 1), fork(process, process - 1)]);
         calls.extend([Call::Release { group, pages: group }, enter(BOTTOM, process)]);
         calls.extend([Call::Remove { user: 0, group }, enter(BOTTOM, process - 1)]);
     }
@@ -112,13 +115,34 @@ fn made_again() -> Vec<Call> {
     calls
 }
 
-/// The first processes go, and the last, and those about the ends of bytes; some come back.
+/// The first processes go, and the last, and those about the ends of bytes; they come back when they
+/// are collected.
 fn departures() -> Vec<Call> {
     let edges = [1, 2, 63, 64, 255, 256, 257, 511, 512, LAST_PROCESS - 1, LAST_PROCESS];
-    let mut calls: Vec<Call> = edges.map(|process| Call::Exit { process }).to_vec();
-    calls.extend([Call::Exit { process: LAST_PROCESS + 1 }, Call::Exit { process: LAST_PROCESS }]);
+    let mut calls: Vec<Call> = edges.map(exit).to_vec();
+    calls.extend([exit(LAST_PROCESS + 1), exit(LAST_PROCESS)]);
+    calls.extend(edges.map(|process| fork(3, process)));
+    calls.extend([0, 3, LAST_PROCESS + 1].map(collect));
+    calls.extend(edges.map(collect));
     calls.extend(edges.map(|process| fork(3, process)));
     calls.push(Call::Remove { user: 0, group: BOTTOM });
+    calls
+}
+
+/// All processes end, and so does their group; its number is taken until the last zombie is collected.
+fn endings() -> Vec<Call> {
+    let mut calls: Vec<Call> = (1..=LAST_PROCESS).map(exit).collect();
+    calls.extend([fork(1, 2), Call::Admit { process: 1, user: 7 }]);
+    calls.push(Call::Read { group: BOTTOM, file: b"cgroup.procs".to_vec(), room: 0 });
+    calls.extend([Call::Remove { user: 0, group: BOTTOM }, make(BOTTOM - 1, BOTTOM)]);
+    let line = "0::".len() + "/255".len() * (BOTTOM + 1 - LADDER) as usize + " (deleted)\n".len();
+    for room in [line, line - 1, line + 1, 68, 0, ROOM] {
+        calls.push(Call::Membership { process: LAST_PROCESS, room });
+    }
+    let middle = LAST_PROCESS / 2;
+    calls.extend((1..=LAST_PROCESS).filter(|&process| process != middle).map(collect));
+    calls.extend([make(BOTTOM - 1, BOTTOM), Call::Admit { process: middle, user: 7 }]);
+    calls.extend([collect(middle), make(0, BOTTOM), Call::Admit { process: middle, user: 7 }]);
     calls
 }
 
@@ -136,6 +160,14 @@ fn enter(group: u64, process: u64) -> Call {
 
 fn fork(parent: u64, process: u64) -> Call {
     Call::Fork { parent, process }
+}
+
+fn exit(process: u64) -> Call {
+    Call::Exit { process }
+}
+
+fn collect(process: u64) -> Call {
+    Call::Collect { process }
 }
 
 fn set(group: u64, file: &str, line: &str) -> Call {

@@ -2,7 +2,8 @@
 //! picked from what is live, or from the edges of ranges, and short scenes that bring the tree to
 //! where the rules bite. Each seed has tastes of its own (how many users, how deep, how wild), so
 //! that seeds differ more than calls of one seed do. Some scenes come by dice; others in turn, each
-//! seed going on about where the one before it left off, so that a run of seeds leaves none out.
+//! seed going on about where the one before it left off, so that a run of seeds leaves none out. A
+//! tenth of the seeds are heavy in zombies.
 
 use std::collections::VecDeque;
 
@@ -35,7 +36,7 @@ pub struct Generator {
 impl Generator {
     pub fn new(seed: u64) -> Generator {
         let mut random = Random::new(seed);
-        let taste = Taste::of(&mut random);
+        let taste = Taste::of(&mut random, scenes::has_many_zombies(seed));
         let turn = seed % (1 << 32) * TURNS;
         Generator { random, taste, plan: VecDeque::new(), turn, fresh: Some(seed) }
     }

@@ -45,6 +45,7 @@ fn unseen() -> Vec<Call> {
     calls.extend((0..16).map(|_| release(1, MOST)));
     calls.extend([release(1, 4), release(1, 3), release(1, 1)]);
     calls.extend([Call::Remove { user: 0, group: 1 }, Call::Exit { process: 5 }]);
+    calls.push(Call::Collect { process: 5 });
     calls
 }
 

@@ -1,6 +1,6 @@
 //! The kinds of what is read and asked: values of each file, lengths of buffers and lines, names,
 //! lines of the question, pages released, the last numbers in every place, limits and meetings above
-//! the deepest level, devices.
+//! the deepest level, devices, zombies.
 
 use crate::call::Call;
 use crate::calls::Calls;
@@ -10,11 +10,17 @@ use crate::model::{DEEPEST, LAST_PROCESS, MEMORY, Model, control_word, words};
 
 mod devices;
 mod numbers;
+mod zombies;
 
-/// The lengths of the longest texts, as the papers have them: 1 to 1024, each with a newline; and
-/// "0::", sixteen numbers of three digits, each after a "/", and a newline.
+pub use zombies::Freed;
+
+/// The lengths of the longest texts, as the papers have them: 1 to 1024, each with a newline; "0::",
+/// sixteen numbers of three digits, each after a "/", and a newline; and the same with " (deleted)".
 const LONGEST_LISTING: usize = 4013;
 const LONGEST_LINE: usize = 68;
+const LONGEST_DELETED: usize = 78;
+const LONGEST: &[&str] =
+    &["cgroup.procs", "membership in a live group", "membership in a removed group"];
 
 /// What is read, and one kind of it.
 pub type Kind = (&'static str, &'static str);
@@ -109,6 +115,9 @@ const MET: &[&str; DEEPEST] = &[
     "met at depth 15",
 ];
 
+/// The group of a membership line.
+const DEPTHS: &[&str] = &["the root", "depth 1", "deeper", "depth 16", "depth 16, the longest"];
+
 /// Bits of a word that is too narrow.
 const NARROW: [(u32, &str); 5] =
     [(16, "2^16"), (20, "2^20"), (22, "2^22"), (24, "2^24"), (32, "2^32")];
@@ -135,10 +144,12 @@ pub const KINDS: &[(&str, &[&str])] = &[
     ),
     ("io.max", devices::TEXTS),
     ("io.max written", devices::WRITTEN),
-    ("membership", &["the root", "depth 1", "deeper", "depth 16", "depth 16, the longest"]),
-    ("the longest text", &["cgroup.procs", "membership"]),
-    ("the longest text, buffer of exactly the length", &["cgroup.procs", "membership"]),
-    ("the longest text, buffer one byte short", &["cgroup.procs", "membership"]),
+    ("membership", DEPTHS),
+    ("membership of a zombie", DEPTHS),
+    ("membership of a zombie, deleted", DEPTHS.split_at(1).1),
+    ("the longest text", LONGEST),
+    ("the longest text, buffer of exactly the length", LONGEST),
+    ("the longest text, buffer one byte short", LONGEST),
     ("buffer of exactly the length", TEXTS),
     ("buffer one byte short", TEXTS),
     ("buffer long enough, yet not modulo 2^8", TEXTS),
@@ -154,9 +165,20 @@ pub const KINDS: &[(&str, &[&str])] = &[
             "no bytes for a group not live",
             "no bytes for an absent file",
             "no bytes for a process out of range",
-            "no bytes for a process not live",
+            "no bytes for a process that is free",
         ],
     ),
+    ("zombie", zombies::STANDING),
+    ("accepted beside a zombie", zombies::CALLS),
+    ("zombie in a live group, refused", zombies::REFUSED),
+    ("zombie in a removed group, refused", zombies::REFUSED),
+    ("not live, though a zombie's path runs through it", zombies::NOT_LIVE),
+    ("make, taken by the path", zombies::TAKEN),
+    ("collect", zombies::COLLECTED),
+    ("collect, refused", zombies::NOT_COLLECTED),
+    ("after its collection, again", zombies::AGAIN),
+    ("line with \" (deleted)\", buffer of exactly the length", zombies::LENGTHS),
+    ("line with \" (deleted)\", buffer one byte short", zombies::LENGTHS),
     ("read, last byte of the name off by one", NAMES),
     ("read, name a byte less", NAMES),
     ("read, name a byte more", NAMES),
@@ -270,24 +292,34 @@ pub fn values(model: &Model) -> Vec<Kind> {
         }
     }
     let processes = model.live_processes().filter_map(|process| model.process(process));
-    kinds.extend(processes.map(|process| {
-        let chain = model.chain(process.group);
-        match chain.len() - 1 {
-            0 => kind("membership", "the root"),
-            1 => kind("membership", "depth 1"),
-            DEEPEST if chain[..DEEPEST].iter().all(|&group| group > 99) => {
-                kind("membership", "depth 16, the longest")
-            }
-            DEEPEST => kind("membership", "depth 16"),
-            _ => kind("membership", "deeper"),
-        }
+    kinds.extend(processes.map(|p| kind("membership", depth_name(&model.chain(p.group)))));
+    kinds.extend(model.zombies().map(|zombie| {
+        let path = model.path(zombie);
+        let what = match model.is_on_zombies_path(path[0]) {
+            true => "membership of a zombie, deleted",
+            false => "membership of a zombie",
+        };
+        kind(what, depth_name(&path))
     }));
+    kinds.extend(zombies::values(model));
     kinds
+}
+
+/// How deep a group is, by its chain.
+fn depth_name(chain: &[u64]) -> &'static str {
+    match chain.len() - 1 {
+        0 => "the root",
+        1 => "depth 1",
+        DEEPEST if chain[..DEEPEST].iter().all(|&group| group > 99) => "depth 16, the longest",
+        DEEPEST => "depth 16",
+        _ => "deeper",
+    }
 }
 
 /// The kinds of a call, by the checks that hold.
 pub fn of_call(model: &Model, call: &Call, held: &[&'static Check]) -> Vec<Kind> {
     let mut kinds = numbers::of_call(call, held);
+    kinds.extend(zombies::of_call(model, call, held));
     kinds.extend(of_arguments(model, call, held));
     kinds
 }
@@ -338,7 +370,7 @@ const NO_BYTES: [(&Check, &str); 7] = [
     (read::EVENTS_ON_ROOT, "no bytes for an absent file"),
     (read::NOT_ON, "no bytes for an absent file"),
     (membership::OUTSIDE, "no bytes for a process out of range"),
-    (membership::NOT_LIVE, "no bytes for a process not live"),
+    (membership::FREE, "no bytes for a process that is free"),
 ];
 
 /// How long the buffer is, beside the text.
@@ -373,11 +405,6 @@ fn buffer(
     };
     note(given == length, "buffer of exactly the length");
     note(given + 1 == length, "buffer one byte short");
-    if [("cgroup.procs", LONGEST_LISTING), ("membership", LONGEST_LINE)].contains(&(text, length)) {
-        note(given > length, "the longest text");
-        note(given == length, "the longest text, buffer of exactly the length");
-        note(given + 1 == length, "the longest text, buffer one byte short");
-    }
     for (bits, what) in [
         (8, "buffer long enough, yet not modulo 2^8"),
         (12, "buffer long enough, yet not modulo 2^12"),
@@ -388,6 +415,28 @@ fn buffer(
     note(given > 4096, "buffer of more than 4096 bytes");
     if given > length {
         kinds.push(kind("buffer", "room to spare"));
+    }
+    let own = call.processes().first().and_then(|n| model.path(*n).first().copied());
+    let is_deleted = own.is_some_and(|own| model.is_on_zombies_path(own));
+    if is_deleted {
+        kinds.extend(zombies::line(length, given));
+    }
+    let longest = match (text, length) {
+        ("cgroup.procs", LONGEST_LISTING) => Some("cgroup.procs"),
+        ("membership", LONGEST_LINE) if !is_deleted => Some("membership in a live group"),
+        ("membership", LONGEST_DELETED) => Some("membership in a removed group"),
+        _ => None,
+    };
+    if let Some(name) = longest {
+        for (holds, what) in [
+            (given > length, "the longest text"),
+            (given == length, "the longest text, buffer of exactly the length"),
+            (given + 1 == length, "the longest text, buffer one byte short"),
+        ] {
+            if holds {
+                kinds.push(kind(what, name));
+            }
+        }
     }
     kinds
 }

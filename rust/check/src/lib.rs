@@ -8,8 +8,9 @@
 //! - [`generate`]: lists of calls from a seed
 //! - [`crossed`], [`heap`], [`full`]: three lists more, for pairs of checks, for many pages, and for
 //!   every group and every process
-//! - [`sizes`], [`names`], [`depths`], [`effects`], [`devices`]: parts of the first: long lines and
-//!   large buffers, near names, limits above the deepest level, what a line leaves, lines of io.max
+//! - [`sizes`], [`names`], [`depths`], [`effects`], [`devices`], [`zombies`]: parts of the first: long
+//!   lines and large buffers, near names, limits above the deepest level, what a line leaves, lines of
+//!   io.max, zombies
 //! - [`compare`], [`explore`]: one list, and many
 //! - [`counts`], [`kinds`]: what the lists came to, and what they never did
 //! - [`shrink`]: a short list from a long one
@@ -41,6 +42,7 @@ pub mod recorded;
 pub mod replay;
 pub mod shrink;
 pub mod sizes;
+pub mod zombies;
 
 pub use call::Call;
 pub use calls::Calls;

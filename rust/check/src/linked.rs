@@ -77,6 +77,10 @@ impl Calls for Linked {
         unsafe { sys::ss_exit(self.tree_mut(), ProcessId(process)) }
     }
 
+    fn collect(&mut self, process: u64) -> u32 {
+        unsafe { sys::ss_collect(self.tree_mut(), ProcessId(process)) }
+    }
+
     fn charge(&mut self, process: u64, pages: u64, told: &mut [u64; 2]) -> u32 {
         unsafe { sys::ss_charge(self.tree_mut(), ProcessId(process), pages, told.as_mut_ptr()) }
     }

@@ -6,10 +6,13 @@
 //! Each call has its checks as a list, in the paper's order, and what it does when none of them
 //! holds. A check can be asked even where an earlier one holds: of a group or a process that is not
 //! live nothing is true, and only user 0 may write the one and move the other. Where the paper joins
-//! two causes under one number, the second is asked of what the first lets pass: "not live" of
-//! processes in range, "not on" of groups that are live.
+//! two causes under one number, the second is asked of what the first lets pass: "free" of processes
+//! in range, "not on" of groups that are live.
+//!
+//! A process is free, live or a zombie. The path of a zombie is the chain that its group had when the
+//! process ended.
 
-use std::collections::BTreeMap;
+use std::collections::{BTreeMap, BTreeSet};
 
 use crate::checks::Check;
 
@@ -87,12 +90,15 @@ pub struct Process {
 }
 
 /// The machine size, the live groups at the places of their numbers, and the live processes by their
-/// numbers.
+/// numbers; the group of each zombie by its number; and the parents of removed groups, as long as a
+/// zombie's path runs through them.
 #[derive(Clone)]
 pub struct Model {
     machine: u64,
     groups: Vec<Option<Box<Group>>>,
     processes: BTreeMap<u64, Process>,
+    pub(crate) zombies: BTreeMap<u64, u64>,
+    pub(crate) removed: BTreeMap<u64, u64>,
 }
 
 fn is_outside(process: u64) -> bool {

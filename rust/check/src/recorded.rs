@@ -206,6 +206,7 @@ fn parse_call(tokens: &mut Tokens) -> Parsed<Call> {
         "admit" => Call::Admit { process: tokens.number()?, user: tokens.number()? },
         "fork" => Call::Fork { parent: tokens.number()?, process: tokens.number()? },
         "exit" => Call::Exit { process: tokens.number()? },
+        "collect" => Call::Collect { process: tokens.number()? },
         "charge" => Call::Charge { process: tokens.number()?, pages: tokens.number()? },
         "release" => Call::Release { group: tokens.number()?, pages: tokens.number()? },
         "read" => {

@@ -264,7 +264,7 @@ fn each_number(call: &mut Call, mut visit: impl FnMut(&mut u64)) {
             visit(parent);
             visit(process);
         }
-        Call::Exit { process } => visit(process),
+        Call::Exit { process } | Call::Collect { process } => visit(process),
         Call::Charge { process, pages } => {
             visit(process);
             visit(pages);
@@ -315,6 +315,7 @@ fn each_group(call: &mut Call, mut visit: impl FnMut(&mut u64)) {
         Call::Admit { .. }
         | Call::Fork { .. }
         | Call::Exit { .. }
+        | Call::Collect { .. }
         | Call::Charge { .. }
         | Call::Membership { .. }
         | Call::FirstBadWord { .. } => {}
@@ -326,6 +327,7 @@ fn each_process(call: &mut Call, mut visit: impl FnMut(&mut u64)) {
     match call {
         Call::Admit { process, .. }
         | Call::Exit { process }
+        | Call::Collect { process }
         | Call::Charge { process, .. }
         | Call::Membership { process, .. } => visit(process),
         Call::Fork { parent, process } => {

@@ -61,6 +61,9 @@ fn p1_to_p5_charges_up_the_chain<H: Calls>() {
     assert_eq!(host.remove(0, 2), 0);
     assert_eq!(host.clone().release(1, 7), 34);
     assert_eq!(host.clone().release(1, 6), 0);
+    assert_eq!(host.collect(5), 0);
+    assert_eq!(host.clone().release(1, 7), 34);
+    assert_eq!(host.clone().release(1, 6), 0);
 }
 
 fn p6_p7_rounding_and_the_top_figure<H: Calls>() {

@@ -20,7 +20,7 @@ fn without_a_fault_nothing_is_found() {
 }
 
 /// Of each kind of fault one that a handful of calls shows.
-const SHORTLY_SHOWN: [(&str, usize); 8] = [
+const SHORTLY_SHOWN: [(&str, usize); 11] = [
     ("a number with leading zeros is malformed", 3),
     ("a charge refused further up leaves pages behind", 8),
     ("a move asks source and target, not their common ancestor", 8),
@@ -29,6 +29,9 @@ const SHORTLY_SHOWN: [(&str, usize); 8] = [
     ("fork in the root makes the child user 0's", 7),
     ("a key of io.max that is not given goes back to \"max\"", 4),
     ("a fifth device is taken", 7),
+    ("pids.max counts zombies", 10),
+    ("a zombie's path is cut at the removed group", 5),
+    ("a removed number is made again though a zombie's path comes from below", 8),
 ];
 
 #[test]
@@ -56,6 +59,7 @@ fn the_checks_are_those_of_the_table() {
         Call::Admit { process: 0, user: 0 },
         Call::Fork { parent: 0, process: 0 },
         Call::Exit { process: 0 },
+        Call::Collect { process: 0 },
         Call::Charge { process: 0, pages: 0 },
         Call::Release { group: 0, pages: 0 },
         Call::Read { group: 0, file, room },

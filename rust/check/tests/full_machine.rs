@@ -5,7 +5,7 @@
 #[macro_use]
 mod common;
 
-use common::rows::{admit, control, exit, make, procs, release, remove, setting};
+use common::rows::{admit, collect, control, exit, make, procs, release, remove, setting};
 use common::{read, shown};
 use shootspiral_check::calls::NO_GROUP;
 use shootspiral_check::{Call, Calls, Linked};
@@ -84,7 +84,7 @@ fn every_page() {
         succeed(&mut host, [remove(0, group)]);
         uses(&host, 1..group, MACHINE);
     }
-    succeed(&mut host, [admit(5, 7)]);
+    succeed(&mut host, [collect(5), admit(5, 7)]);
     assert_eq!(charged(&mut host, 1), (12, 0, 1));
     for _ in 0..MACHINE / MOST {
         succeed(&mut host, [release(0, MOST)]);

@@ -197,8 +197,9 @@ const SLIPS: [&str; 5] = [
     "a move asks source and target, not their common ancestor",
 ];
 
-/// By what kernels answered alone, and the notes on io, so many wrong hosts of the comparison are found, the slips among
-/// them; the others show at ends of figures and in names, where no kernel was asked.
+/// By what kernels answered alone, and the notes on io and zombies, so many wrong hosts of the
+/// comparison are found, the slips among them; the others show at ends of figures and in names, where no
+/// kernel was asked, or where Linux differs.
 #[test]
 fn wrong_hosts_are_found() {
     let lists = RECORDED.map(list);
@@ -210,7 +211,7 @@ fn wrong_hosts_are_found() {
         let fault = Fault::named(text).unwrap_or_else(|| panic!("no fault: {text}"));
         assert!(is_found(&fault), "{text}");
     }
-    assert_eq!(Fault::ALL.iter().filter(|fault| is_found(fault)).count(), 37);
+    assert_eq!(Fault::ALL.iter().filter(|fault| is_found(fault)).count(), 59);
 }
 
 /// The command prints the first line of a list that differs, and fails.

@@ -21,8 +21,8 @@ const DIGESTS: [(&str, u64); 8] = [
     ("test_pids.txt", 0xabe5_3cdd_da2f_764c),
     ("test_memcontrol.txt", 0x4821_3e8c_ed00_ebe3),
     ("test_cpu.txt", 0x9a86_a97a_27e2_447e),
-    ("agreed.txt", 0x992e_8474_f214_52ec),
-    ("differences.txt", 0xb5fc_165a_7b22_8363),
+    ("agreed.txt", 0xa4d6_5786_418a_1aaa),
+    ("differences.txt", 0xb955_18a6_38e3_18cd),
 ];
 
 #[test]
@@ -34,7 +34,8 @@ fn answers_of_linux_stand() {
     }
 }
 
-/// FNV-1a of the text of the lines, as a call's form in the program can change with an order.
+/// FNV-1a of the text of the lines, as a call's form in the program can change with an order. A
+/// collection is left out: before order 5 an exit was that too, and kernels were asked for both at once.
 fn digest(list: &List) -> u64 {
     let mut digest: u64 = 0xcbf2_9ce4_8422_2325;
     let mut add = |text: String| {
@@ -44,7 +45,8 @@ fn digest(list: &List) -> u64 {
     };
     for case in &list.cases {
         add(format!("{} {}", case.name, case.pages));
-        for entry in &case.entries {
+        let is_collection = |entry: &&Entry| matches!(entry.call, Call::Collect { .. });
+        for entry in case.entries.iter().filter(|entry| !is_collection(entry)) {
             add(format!("{} = {}", call(entry), answer_of_linux(entry)));
         }
     }

@@ -28,6 +28,7 @@ fn calls_are_understood() {
         ("admit 1 2", Call::Admit { process: 1, user: 2 }),
         ("fork 1 2", Call::Fork { parent: 1, process: 2 }),
         ("exit 1", Call::Exit { process: 1 }),
+        ("collect 1", Call::Collect { process: 1 }),
         ("charge 1 2", Call::Charge { process: 1, pages: 2 }),
         ("release 1 2", Call::Release { group: 1, pages: 2 }),
         ("read 1 pids.max", Call::Read { group: 1, file: file.clone(), room: ROOM }),

@@ -45,7 +45,7 @@ fn made<H: Calls>() {
     evening.succeed([setting(8, 2, "cpu.max", "3000 4000"), setting(8, 2, "memory.max", "16384")]);
     evening.succeed([setting(8, 2, "pids.max", "2"), setting(8, 2, "io.max", "8:16 rbps=5")]);
     evening.granted(charge(5, 2), 3);
-    evening.succeed([exit(5), control(8, 2, "+cpu"), hand_over(0, 1, 7)]);
+    evening.succeed([exit(5), collect(5), control(8, 2, "+cpu"), hand_over(0, 1, 7)]);
     evening.succeed([remove(7, 2), make(7, 1, 2)]);
     evening.reads(2, "cgroup.subtree_control", "");
     evening.reads(2, "cpu.weight", "100\n");
@@ -153,7 +153,7 @@ fn ends<H: Calls>() {
     evening.succeed([make(0, 0, 1), make(0, 1, 255), control(0, 0, ALL), control(0, 1, ALL)]);
     evening.succeed([admit(1, 7)]);
     evening.granted(fork(1, 1024), 1);
-    evening.succeed([procs(0, 255, "1"), procs(0, 255, "1024"), exit(1)]);
+    evening.succeed([procs(0, 255, "1"), procs(0, 255, "1024"), exit(1), collect(1)]);
     evening.get(16, [control(0, 255, "+cpu"), remove(0, 255)]);
     evening.granted(fork(1024, 1), 3);
     evening.granted(charge(1024, 1), 3);
@@ -453,4 +453,19 @@ fn full<H: Calls>() {
     assert_eq!(DEEP_LINE.len(), 68);
     evening.belongs(1024, DEEP_LINE);
     evening.unknown_into(67, 1024, 28);
+    for process in 1..=1024 {
+        evening.succeed([exit(process)]);
+    }
+    evening.reads(255, "cgroup.procs", "");
+    evening.belongs(1024, DEEP_LINE);
+    evening.succeed([remove(0, 255)]);
+    let deleted = DEEP_LINE.replace('\n', " (deleted)\n");
+    assert_eq!(deleted.len(), 78);
+    evening.belongs(1024, &deleted);
+    evening.unknown_into(77, 1024, 28);
+    for process in 1..=1024 {
+        evening.get(17, [make(0, 0, 255), admit(process, 0)]);
+        evening.succeed([collect(process)]);
+    }
+    evening.succeed([make(0, 0, 255), admit(1024, 0)]);
 }

@@ -4,7 +4,7 @@
 #[macro_use]
 mod common;
 
-use common::shown;
+use common::{charge, fork, shown};
 use shootspiral_check::Calls;
 use shootspiral_check::calls::NO_GROUP;
 
@@ -21,6 +21,12 @@ both! {
     empty_replies
     machine_sizes
     owners
+    zombies_named
+    numbers_of_removed_groups
+    removed_above_each_other
+    place_of_deleted
+    zombies_and_other_rules
+    collected_without_a_user
 }
 
 fn lines_for_procs<H: Calls>() {
@@ -404,4 +410,172 @@ fn owners<H: Calls>() {
     assert_eq!(host.hand_over(0, 1, 7), 0);
     assert_eq!(host.hand_over(0, 1, 0), 0);
     assert_eq!(host.make(7, 1, 2), 13);
+}
+
+/// The membership line of a process, or the number that the reader gets.
+fn line_of<H: Calls>(host: &H, process: u64) -> Result<String, u32> {
+    let (mut reply, mut told) = ([b'.'; 100], [77]);
+    match host.membership(process, &mut reply, &mut told) {
+        0 => Ok(String::from_utf8(reply[..told[0] as usize].to_vec()).unwrap()),
+        number => Err(number),
+    }
+}
+
+/// A host with groups 1 and 2 under it, and process 5 of user 7 in 2.
+fn two_groups<H: Calls>() -> H {
+    let mut host = H::fresh(1024);
+    host.make(0, 0, 1);
+    host.make(0, 1, 2);
+    host.admit(5, 7);
+    assert_eq!(host.write_procs(0, 2, b"5"), 0);
+    host
+}
+
+/// Every call that names a process, of one that has ended: 3, and 17 where the number is to be taken.
+/// Of a number that is no zombie's, in range or not, collect is 3 and never 22.
+fn zombies_named<H: Calls>() {
+    let mut host: H = two_groups();
+    for process in [0, 5, 6, 1024, 1025, 1 << 32, u64::MAX] {
+        assert_eq!(host.collect(process), 3, "{process}");
+    }
+    assert_eq!(host.exit(5), 0);
+    assert_eq!(host.exit(5), 3);
+    assert_eq!(host.write_procs(0, 1, b"5"), 3);
+    assert_eq!(host.write_procs(0, 2, b"5"), 3);
+    assert_eq!(charge(&mut host, 5, 1), (3, NO_GROUP, 0));
+    assert_eq!(fork(&mut host, 5, 6), (3, NO_GROUP, 0));
+    assert_eq!(fork(&mut host, 5, 5), (3, NO_GROUP, 0));
+    assert_eq!(host.admit(6, 0), 0);
+    assert_eq!(fork(&mut host, 6, 5), (17, NO_GROUP, 0));
+    assert_eq!(host.admit(5, 7), 17);
+    assert_eq!(line_of(&host, 5), Ok("0::/1/2\n".into()));
+    assert_eq!(host.collect(5), 0);
+    assert_eq!(line_of(&host, 5), Err(3));
+    assert_eq!(host.collect(5), 3);
+    assert_eq!(fork(&mut host, 6, 5), (0, NO_GROUP, 1));
+    assert_eq!(line_of(&host, 5), Ok("0::/\n".into()));
+}
+
+/// Taken while it is on a zombie's path; in every other call not live.
+fn numbers_of_removed_groups<H: Calls>() {
+    let mut host: H = two_groups();
+    host.exit(5);
+    assert_eq!(host.make(0, 0, 2), 17);
+    assert_eq!(host.remove(0, 2), 0);
+    assert_eq!(host.make(0, 256, 2), 22);
+    assert_eq!(host.make(0, 9, 2), 2);
+    assert_eq!(host.make(7, 0, 2), 17);
+    assert_eq!(host.make(0, 1, 2), 17);
+    assert_eq!(host.make(0, 2, 3), 2);
+    assert_eq!(host.make(0, 2, 2), 2);
+    assert_eq!(host.remove(0, 2), 2);
+    assert_eq!(host.hand_over(0, 2, 7), 2);
+    assert_eq!(host.write_procs(0, 2, b"5"), 2);
+    assert_eq!(host.write_subtree_control(0, 2, b""), 2);
+    assert_eq!(host.write_setting(0, 2, b"pids.max", b"1"), 2);
+    assert_eq!(host.release(2, 1), 2);
+    assert_eq!(host.read(2, b"cgroup.procs", &mut [], &mut [0]), 2);
+    // Other numbers are free: what was removed without a zombie, and what never was.
+    assert_eq!(host.make(0, 1, 3), 0);
+    assert_eq!(host.remove(0, 3), 0);
+    assert_eq!(host.make(0, 0, 3), 0);
+    assert_eq!(host.collect(5), 0);
+    assert_eq!(host.make(7, 0, 2), 13);
+    assert_eq!(host.make(0, 3, 2), 0);
+}
+
+/// Both numbers stay taken, and the line stays; so it is with a second zombie on a part of the path.
+fn removed_above_each_other<H: Calls>() {
+    let mut host: H = two_groups();
+    host.admit(6, 0);
+    host.write_procs(0, 1, b"6");
+    assert_eq!((host.exit(5), host.exit(6)), (0, 0));
+    assert_eq!(host.remove(0, 1), 16);
+    assert_eq!((host.remove(0, 2), host.remove(0, 1)), (0, 0));
+    assert_eq!(line_of(&host, 5), Ok("0::/1/2 (deleted)\n".into()));
+    assert_eq!(line_of(&host, 6), Ok("0::/1 (deleted)\n".into()));
+    assert_eq!((host.make(0, 0, 1), host.make(0, 0, 2)), (17, 17));
+    // The one that is further down needs both groups, the other one.
+    let mut other = host.clone();
+    assert_eq!(host.collect(6), 0);
+    assert_eq!(line_of(&host, 5), Ok("0::/1/2 (deleted)\n".into()));
+    assert_eq!((host.make(0, 0, 1), host.make(0, 0, 2)), (17, 17));
+    assert_eq!(host.collect(5), 0);
+    assert_eq!((host.make(0, 0, 2), host.make(0, 2, 1)), (0, 0));
+    assert_eq!(other.collect(5), 0);
+    assert_eq!(line_of(&other, 6), Ok("0::/1 (deleted)\n".into()));
+    assert_eq!((other.make(0, 0, 1), other.make(0, 0, 2)), (17, 0));
+    assert_eq!(other.make(0, 2, 1), 17);
+    assert_eq!(other.collect(6), 0);
+    assert_eq!(other.make(0, 2, 1), 0);
+}
+
+/// After the path, before the newline, and only when the zombie's own group was removed. A zombie of
+/// the root never has it.
+fn place_of_deleted<H: Calls>() {
+    let mut host: H = two_groups();
+    host.make(0, 1, 3);
+    host.admit(6, 0);
+    host.admit(7, 0);
+    host.write_procs(0, 1, b"6");
+    for process in [5, 6, 7] {
+        assert_eq!(host.exit(process), 0);
+    }
+    assert_eq!(host.remove(0, 3), 0);
+    let lines = |host: &H| [5, 6, 7].map(|process| line_of(host, process).unwrap());
+    assert_eq!(lines(&host), ["0::/1/2\n", "0::/1\n", "0::/\n"]);
+    assert_eq!(host.remove(0, 2), 0);
+    assert_eq!(lines(&host), ["0::/1/2 (deleted)\n", "0::/1\n", "0::/\n"]);
+    assert_eq!(host.remove(0, 1), 0);
+    assert_eq!(lines(&host), ["0::/1/2 (deleted)\n", "0::/1 (deleted)\n", "0::/\n"]);
+    for (room, number) in [(17, 28), (18, 0)] {
+        let (mut reply, mut told) = (vec![b'.'; room], [77]);
+        assert_eq!(host.membership(5, &mut reply, &mut told), number, "{room}");
+        assert_eq!(told, [if number == 0 { 18 } else { 0 }], "{room}");
+    }
+}
+
+/// Not live: no inner process, not populated, not in pids.current, not counted by pids.max; pages stay.
+fn zombies_and_other_rules<H: Calls>() {
+    let mut host: H = two_groups();
+    host.write_subtree_control(0, 0, b"+memory +pids");
+    host.write_setting(0, 1, b"pids.max", b"2");
+    host.admit(6, 7);
+    assert_eq!(charge(&mut host, 5, 3), (0, NO_GROUP, 3));
+    assert_eq!(fork(&mut host, 5, 8), (0, NO_GROUP, 3));
+    assert_eq!(fork(&mut host, 5, 9), (11, 1, 2));
+    assert_eq!(host.exit(8), 0);
+    assert_eq!(shown(&host, 1, "pids.current"), "1\n");
+    assert_eq!(fork(&mut host, 5, 9), (0, NO_GROUP, 3));
+    assert_eq!(fork(&mut host, 5, 10), (11, 1, 2));
+    assert_eq!(shown(&host, 2, "cgroup.procs"), "5\n9\n");
+    assert_eq!((host.exit(5), host.exit(9)), (0, 0));
+    assert_eq!(shown(&host, 2, "cgroup.procs"), "");
+    assert_eq!(shown(&host, 1, "cgroup.events"), "populated 0\n");
+    assert_eq!(shown(&host, 1, "pids.current"), "0\n");
+    assert_eq!(shown(&host, 1, "memory.current"), "12288\n");
+    assert_eq!(host.write_subtree_control(0, 1, b"+pids"), 0);
+    assert_eq!(host.write_setting(0, 2, b"pids.max", b"0"), 0);
+    assert_eq!(host.write_subtree_control(0, 2, b"+pids"), 0);
+    assert_eq!(host.write_procs(0, 2, b"6"), 16);
+    assert_eq!(host.write_subtree_control(0, 2, b"-pids"), 0);
+    assert_eq!(host.write_procs(0, 2, b"6"), 0);
+    assert_eq!(host.remove(0, 2), 16);
+    assert_eq!(host.write_procs(0, 0, b"6"), 0);
+    assert_eq!(host.remove(0, 2), 0);
+    assert_eq!(host.release(1, 4), 34);
+    assert_eq!(host.release(1, 3), 0);
+}
+
+/// Collect asks for no user, and what comes after has nothing of the one that was.
+fn collected_without_a_user<H: Calls>() {
+    let mut host: H = two_groups();
+    assert_eq!(host.hand_over(0, 2, 9), 0);
+    assert_eq!((host.exit(5), host.collect(5)), (0, 0));
+    assert_eq!(host.admit(5, 8), 0);
+    assert_eq!(host.write_procs(0, 2, b"5"), 0);
+    assert_eq!(host.hand_over(0, 2, 7), 0);
+    assert_eq!(host.write_procs(7, 2, b"5"), 13);
+    assert_eq!(host.hand_over(0, 2, 8), 0);
+    assert_eq!(host.write_procs(8, 2, b"5"), 0);
 }

@@ -65,7 +65,7 @@ fn removing<H: Calls>() {
     evening.get(2, [remove(7, 9)]);
     evening.get(13, [remove(7, 1), remove(7, 0), remove(8, 2)]);
     evening.get(16, [remove(0, 0), remove(0, 1), remove(7, 2)]);
-    evening.succeed([exit(5), remove(7, 2)]);
+    evening.succeed([exit(5), collect(5), remove(7, 2)]);
     evening.get(2, [remove(7, 2)]);
     evening.succeed([make(7, 3, 2), hand_over(0, 3, 0)]);
     evening.get(13, [remove(7, 2)]);
@@ -116,10 +116,11 @@ fn controlling<H: Calls>() {
     evening.get(13, [control(7, 3, ""), control(7, 0, "")]);
     let malformed = ["+pids x", "+cpu x", "+", "-", "cpu", "*cpu", "++cpu", "+cpu+memory", "+CPU"];
     evening.get(22, malformed.map(|line| control(7, 1, line)));
-    let malformed = ["-disk", "+cpu\t+memory", "+cpu,+memory", "\n+cpu", "\n\n", "+cpu\0"];
+    let malformed = ["-disk", "+cpu\t+memory", "+cpu,+memory", "\n+cpu", "\n\n"];
     evening.get(22, malformed.map(|line| control(7, 1, line)));
     let long = [padded(129, ""), padded(129, "+pids"), padded(128, "") + "\n"];
     evening.get(22, long.map(|line| control(7, 1, line)));
+    evening.get(22, [control(7, 1, "+cpu\0")]);
     evening.succeed([padded(128, ""), padded(127, "") + "\n"].map(|line| control(7, 1, line)));
     evening.succeed(["", "\n", "-pids", "+pids -pids"].map(|line| control(7, 1, line)));
     evening.get(2, [control(7, 1, "-pids +pids"), control(7, 2, "+cpu"), control(7, 2, "+memory")]);
@@ -150,13 +151,13 @@ fn holding<H: Calls>() {
     evening.get(22, [control(7, 3, "+cpu x"), control(7, 3, padded(129, "+cpu"))]);
     evening.get(16, ["-cpu", "-io", "-memory", "-pids"].map(|line| control(7, 1, line)));
     evening.get(16, ["+cpu", "+io", "+memory", "+pids"].map(|line| control(7, 3, line)));
-    evening.succeed([control(7, 2, "-cpu -io -pids")]);
+    evening.succeed([control(7, 2, "-cpu -pids -io")]);
     evening.get(16, [procs(7, 2, "5")]);
-    evening.succeed([control(7, 1, "-cpu"), control(7, 2, "-memory +pids")]);
+    evening.succeed([control(7, 1, "-cpu"), control(7, 2, "-memory +io")]);
     evening.get(16, [procs(7, 2, "5")]);
-    evening.succeed([control(7, 2, "-pids +io")]);
+    evening.succeed([control(7, 2, "-io"), control(7, 2, "+pids")]);
     evening.get(16, [procs(7, 2, "5")]);
-    evening.succeed([control(7, 2, "-io"), procs(7, 2, "5")]);
+    evening.succeed([control(7, 2, "-pids"), procs(7, 2, "5")]);
 }
 
 fn setting_forms<H: Calls>() {
@@ -213,7 +214,7 @@ fn births<H: Calls>() {
     evening.get(3, [exit(0), exit(9), exit(1025), exit(1029), exit(4294967301)]);
     evening.succeed([exit(7)]);
     evening.get(3, [exit(7)]);
-    evening.succeed([admit(7, 0)]);
+    evening.succeed([collect(7), admit(7, 0)]);
 }
 
 fn charging<H: Calls>() {
@@ -273,7 +274,7 @@ fn last_numbers<H: Calls>() {
     evening.get(13, [63, 64, 254, 255].map(|group| make(8, 1, group)));
     evening.get(22, [256, 257].map(|group| make(8, 1, group)));
     for process in [256, 257, 1023, 1024, 1025, 1026] {
-        evening.get(3, [exit(process), charge(process, 0), fork(process, 0)]);
+        evening.get(3, [exit(process), collect(process), charge(process, 0), fork(process, 0)]);
         evening.get(3, [procs(0, 1, process.to_string())]);
         evening.unknown(process, 3);
     }

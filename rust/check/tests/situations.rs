@@ -1,16 +1,20 @@
 //! The lists of calls come to places that dice seldom reach: numbers that are not live, figures by
-//! the million, many children, every process, bytes beside the digits, long lines, many devices.
+//! the million, many children, every process, bytes beside the digits, long lines, many devices,
+//! zombies.
 
-use std::collections::BTreeMap;
+use std::collections::{BTreeMap, BTreeSet};
 
-use shootspiral_check::checks::{Check, TABLE, besides, with, write_procs, write_setting};
+use shootspiral_check::checks::{
+    Check, TABLE, admit, besides, fork, make, with, write_procs, write_setting,
+};
 use shootspiral_check::generate::Generator;
 use shootspiral_check::model::{
     CONTROLLERS, CPU, IO, LAST_GROUP, LAST_PROCESS, MEMORY, Model, PIDS,
 };
 use shootspiral_check::{Call, Calls};
 
-const SEEDS: std::ops::RangeInclusive<u64> = 1..=100;
+/// So many that about a hundred are left without those that are heavy in zombies.
+const SEEDS: std::ops::RangeInclusive<u64> = 1..=110;
 const CALLS: usize = 300;
 
 /// How often they must come to each pair of checks but one: a user's own process, below a group of
@@ -19,7 +23,7 @@ const OFTEN: u64 = 2;
 const SELDOM: (&Check, &Check) = (write_procs::MAY_NOT_WRITE, write_procs::HAS_SET);
 
 /// Each place, and how often a run must come to it.
-const PLACES: [(&str, u64); 58] = [
+const PLACES: [(&str, u64); 73] = [
     ("make under a group not live", 20),
     ("remove of a group not live", 20),
     ("hand_over of a group not live", 20),
@@ -32,6 +36,7 @@ const PLACES: [(&str, u64); 58] = [
     ("exit of a process not live", 20),
     ("charge of a process not live", 20),
     ("membership of a process not live", 20),
+    ("collect of a process not live", 200),
     ("a group made again under another parent", 20),
     ("a group with pages removed at depth 4 or below", 5),
     ("a group made under depth 15", 20),
@@ -78,6 +83,20 @@ const PLACES: [(&str, u64); 58] = [
     ("a device's line written back", 10),
     ("a device's line written back without its newline", 10),
     ("io.max of 128 bytes", 3),
+    ("an exit in a group below the root", 300),
+    ("a group with a zombie removed", 100),
+    ("a group above a zombie's removed", 50),
+    ("a number not made, by the path of a zombie in that group", 50),
+    ("a number not made, by the path of a zombie further down", 30),
+    ("a number made again that a zombie's path ran through", 20),
+    ("a zombie's number admitted", 20),
+    ("a zombie's number forked", 20),
+    ("a process again that was a zombie", 50),
+    ("a zombie collected in a removed group", 50),
+    ("a collection that frees two numbers of groups and more", 10),
+    ("a move of a zombie", 20),
+    ("three removed groups on a zombie's path", 100),
+    ("a line with \" (deleted)\" that fills its buffer", 10),
 ];
 
 #[test]
@@ -87,6 +106,7 @@ fn every_place_is_come_to() {
         let mut generator = Generator::new(seed);
         let mut model = Model::fresh(generator.machine());
         let mut parents = BTreeMap::new();
+        let mut freed = BTreeSet::new();
         for _ in 0..generator.length(CALLS) {
             let call = generator.next(&model);
             let before = model.clone();
@@ -99,12 +119,76 @@ fn every_place_is_come_to() {
             {
                 *counts.entry("a group made again under another parent".into()).or_default() += 1;
             }
+            for place in again(&mut freed, &before, &call, answer.number, &model) {
+                *counts.entry(place.into()).or_default() += 1;
+            }
         }
     }
     let count = |place: &str| counts.get(place).copied().unwrap_or(0);
     let rare = PLACES.iter().filter(|(place, often)| count(place) < *often);
     let rare: Vec<_> = rare.map(|(place, _)| format!("{place}: {}", count(place))).collect();
     assert!(rare.is_empty(), "{rare:#?}");
+}
+
+/// Numbers that a collection has freed: of groups, and of processes.
+#[derive(PartialEq, Eq, PartialOrd, Ord)]
+enum Freed {
+    Group(u64),
+    Process(u64),
+}
+
+/// The places that a call comes to by what was freed before it.
+fn again(
+    freed: &mut BTreeSet<Freed>,
+    before: &Model,
+    call: &Call,
+    number: u32,
+    after: &Model,
+) -> Vec<&'static str> {
+    let (is_again, place) = match call {
+        _ if number != 0 => return vec![],
+        Call::Collect { process } => {
+            freed.insert(Freed::Process(*process));
+            let left: BTreeSet<u64> = after.removed_groups().collect();
+            let gone: Vec<u64> = before.removed_groups().filter(|g| !left.contains(g)).collect();
+            let place = "a collection that frees two numbers of groups and more";
+            let is_two = gone.len() > 1;
+            freed.extend(gone.into_iter().map(Freed::Group));
+            (is_two, place)
+        }
+        Call::Make { group, .. } => {
+            let place = "a number made again that a zombie's path ran through";
+            (freed.remove(&Freed::Group(*group)), place)
+        }
+        Call::Admit { process, .. } | Call::Fork { process, .. } => {
+            (freed.remove(&Freed::Process(*process)), "a process again that was a zombie")
+        }
+        _ => return vec![],
+    };
+    if is_again { vec![place] } else { vec![] }
+}
+
+/// One seed of ten ends processes and leaves them.
+#[test]
+fn a_tenth_of_the_lists_is_heavy_in_zombies() {
+    let mut most = vec![];
+    for seed in SEEDS {
+        let mut generator = Generator::new(seed);
+        let mut model = Model::fresh(generator.machine());
+        let (mut zombies, mut ends) = (0, 0);
+        for _ in 0..generator.length(CALLS) {
+            let call = generator.next(&model);
+            let answer = call.on(&mut model, 0);
+            ends += usize::from(answer.number == 0 && matches!(call, Call::Exit { .. }));
+            zombies += model.zombies().count();
+        }
+        if ends > 12 && zombies > 2 * CALLS {
+            most.push(seed);
+        }
+    }
+    let heavy = SEEDS.filter(|seed| seed % 10 == 4);
+    let missing: Vec<u64> = heavy.filter(|seed| !most.contains(seed)).collect();
+    assert!(missing.is_empty(), "{missing:?} of {most:?}");
 }
 
 /// Pairs of checks whose order shows, by the seeds alone.
@@ -146,14 +230,29 @@ fn places(model: &Model, call: &Call, number: u32, told: &[u64]) -> Vec<String> 
     let processes = call.processes();
     note(number == 0 && processes.iter().any(|&process| process > 256), "a process above 256");
     note(model.live_groups().count() > 64, "more than 64 groups");
+    let is_long = |zombie| {
+        let path = model.path(zombie).into_iter();
+        path.take_while(|group| model.is_on_zombies_path(*group)).count() >= 3
+    };
+    note(model.zombies().any(is_long), "three removed groups on a zombie's path");
     let own = |group: u64| model.group(group).map_or(0, |kept| kept.own_pages);
     let refused_by = model.held(call).first().copied();
     match call {
-        Call::Make { parent, .. } => {
+        Call::Make { parent, group, .. } => {
             note(number == 11, "a group not made under depth 16");
             note(number == 0 && model.depth(*parent) == 15, "a group made under depth 15");
+            let is_taken = refused_by == Some(make::NEW_ON_ZOMBIES_PATH);
+            let is_own = model.zombies().any(|zombie| model.path(zombie)[0] == *group);
+            note(is_taken && is_own, "a number not made, by the path of a zombie in that group");
+            note(is_taken && !is_own, "a number not made, by the path of a zombie further down");
         }
         Call::Remove { group, .. } => {
+            let mut paths = model.zombies().map(|zombie| model.path(zombie));
+            let inside: Vec<_> = paths.by_ref().filter(|path| path.contains(group)).collect();
+            let is_own = inside.iter().any(|path| path[0] == *group);
+            note(number == 0 && is_own, "a group with a zombie removed");
+            let is_above = !is_own && !inside.is_empty();
+            note(number == 0 && is_above, "a group above a zombie's removed");
             let is_deep = number == 0 && model.depth(*group) >= 4;
             note(is_deep && own(*group) > 0, "a group with pages removed at depth 4 or below");
             let is_rich = number == 0 && own(*group) > 1 << 22;
@@ -193,6 +292,7 @@ fn places(model: &Model, call: &Call, number: u32, told: &[u64]) -> Vec<String> 
             }
         }
         Call::WriteProcs { user, group, line } => {
+            note(refused_by == Some(write_procs::PROCESS_IS_ZOMBIE), "a move of a zombie");
             let is_malformed = refused_by == Some(write_procs::NOT_A_NUMBER);
             note(is_malformed && is_beside_digits(line), "cgroup.procs with / or :");
             let is_owner = model.group(*group).is_some_and(|kept| kept.owner == *user);
@@ -202,7 +302,23 @@ fn places(model: &Model, call: &Call, number: u32, told: &[u64]) -> Vec<String> 
             let is_refused = refused_by == Some(write_procs::MAY_NOT_WRITE_LOWEST);
             note(is_refused && is_own, "a move that the common ancestor's owner alone may make");
         }
+        Call::Admit { .. } => {
+            note(refused_by == Some(admit::IS_ZOMBIE), "a zombie's number admitted");
+        }
+        Call::Exit { process } => {
+            let is_below = model.process(*process).is_some_and(|kept| kept.group != 0);
+            note(is_below, "an exit in a group below the root");
+        }
+        Call::Collect { process } => {
+            let is_gone = is_deleted(model, *process);
+            note(number == 0 && is_gone, "a zombie collected in a removed group");
+        }
+        Call::Membership { process, room } => {
+            let fills = is_deleted(model, *process) && told[0] == *room as u64;
+            note(fills, "a line with \" (deleted)\" that fills its buffer");
+        }
         Call::Fork { parent, .. } => {
+            note(refused_by == Some(fork::NEW_IS_ZOMBIE), "a zombie's number forked");
             let group = model.process(*parent).map_or(0, |kept| kept.group);
             let limited =
                 |&up: &u64| model.group(up).is_some_and(|kept| kept.settings.pids_max.is_some());
@@ -236,6 +352,11 @@ fn places(model: &Model, call: &Call, number: u32, told: &[u64]) -> Vec<String> 
         _ => {}
     }
     places
+}
+
+/// Whether a zombie's own group was removed.
+fn is_deleted(model: &Model, process: u64) -> bool {
+    model.path(process).first().is_some_and(|own| model.is_on_zombies_path(*own))
 }
 
 /// The places that an accepted line of io.max comes to.
@@ -281,6 +402,7 @@ fn absent(model: &Model, call: &Call) -> Vec<String> {
         | Call::Read { group, .. } => (Some(*group), None, "of"),
         Call::Fork { parent, .. } => (None, Some(*parent), "of"),
         Call::Exit { process }
+        | Call::Collect { process }
         | Call::Charge { process, .. }
         | Call::Membership { process, .. } => (None, Some(*process), "of"),
         Call::Admit { .. } | Call::FirstBadWord { .. } => (None, None, ""),

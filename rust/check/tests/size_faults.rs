@@ -110,6 +110,10 @@ fn processes_go_to_1024() {
         ("fork ends at parent 256", &admitted(fork(257, 1))),
         ("fork ends at process 256", &[admit(1), fork(1, 257)]),
         ("exit ends at process 256", &admitted(Exit { process: 257 })),
+        (
+            "collect ends at process 256",
+            &[admit(257), Exit { process: 257 }, Collect { process: 257 }],
+        ),
         ("charge ends at process 256", &admitted(Charge { process: 257, pages: 1 })),
         ("a move ends at process 256", &admitted(enter(0, 257))),
         ("a membership line ends at process 256", &admitted(Membership { process: 257, room: 5 })),

@@ -47,8 +47,9 @@ impl Host {
 
     /// Makes `group` under `parent`; `user` owns it.
     ///
-    /// EINVAL: a number above 255. ENOENT: `parent` is not live. EEXIST: `group` is live. EACCES:
-    /// `user` may not write `parent`. EAGAIN: `parent` is at depth 16.
+    /// EINVAL: a number above 255. ENOENT: `parent` is not live. EEXIST: `group` is live, or was
+    /// removed and a zombie's path runs through it. EACCES: `user` may not write `parent`. EAGAIN:
+    /// `parent` is at depth 16.
     ///
     /// ```
     /// # use shootspiral::{GroupId, Host, Refusal, User};
@@ -62,7 +63,8 @@ impl Host {
         settle(unsafe { sys::ss_make(self.tree.as_mut_ptr(), user, parent, group) })
     }
 
-    /// Removes `group`; its own pages pass to its parent.
+    /// Removes `group`; its own pages pass to its parent. Zombies stop no removal; while the path of
+    /// one runs through `group`, no cgroup of this number is made.
     ///
     /// EINVAL: above 255. ENOENT: not live. EACCES: `user` may not write its parent, or it is the
     /// root and `user` is not user 0. EBUSY: the root, or it has a live child or process.
@@ -229,7 +231,7 @@ impl Host {
 
     /// Admits a process of `user` into the root.
     ///
-    /// EINVAL: outside 1 to 1024. EEXIST: live.
+    /// EINVAL: outside 1 to 1024. EEXIST: live or a zombie.
     ///
     /// ```
     /// # use shootspiral::{Host, ProcessId, Refusal, User};
@@ -246,8 +248,9 @@ impl Host {
     /// Forks `parent`: `process` is live in its cgroup, with its user. Answers the number of
     /// cgroups consulted.
     ///
-    /// ESRCH: no such live parent. EINVAL: `process` outside 1 to 1024. EEXIST: it is live. EAGAIN:
-    /// a cgroup on the way up with pids on would hold more processes than its pids.max.
+    /// ESRCH: no such live parent. EINVAL: `process` outside 1 to 1024. EEXIST: it is live or a
+    /// zombie. EAGAIN: a cgroup on the way up with pids on would hold more live processes than its
+    /// pids.max.
     ///
     /// ```
     /// # use shootspiral::{GroupId, Host, ProcessId, Refusal, User, file};
@@ -270,21 +273,50 @@ impl Host {
         consulted(number, told)
     }
 
-    /// Ends a process. Its pages stay with its cgroup.
+    /// Ends a process. Its pages stay with its cgroup. It is a zombie then: it is in no file and
+    /// counts nowhere, but has a membership line, and its number is taken until it is collected.
     ///
     /// ESRCH: no such live process.
     ///
     /// ```
-    /// # use shootspiral::{Host, ProcessId, Refusal, User};
+    /// # use shootspiral::{GroupId, Host, ProcessId, Refusal, User, file};
     /// let mut host = Host::fresh(1024);
     /// host.admit(ProcessId(5), User(1000))?;
     /// assert_eq!(host.exit(ProcessId(5)), Ok(()));
     /// assert_eq!(host.exit(ProcessId(5)), Err(Refusal::Esrch));
+    /// assert_eq!(host.read(GroupId::ROOT, file::PROCS)?, b"");
+    /// assert_eq!(host.membership(ProcessId(5))?, b"0::/\n");
+    /// assert_eq!(host.admit(ProcessId(5), User(1000)), Err(Refusal::Eexist));
     /// # Ok::<(), Refusal>(())
     /// ```
     pub fn exit(&mut self, process: ProcessId) -> Result<(), Refusal> {
         // SAFETY: `tree` as the field says.
         settle(unsafe { sys::ss_exit(self.tree.as_mut_ptr(), process) })
+    }
+
+    /// Collects a zombie: its number is free, and so is that of each removed cgroup on its path
+    /// through which no other zombie's path runs.
+    ///
+    /// ESRCH: no such zombie.
+    ///
+    /// ```
+    /// # use shootspiral::{GroupId, Host, ProcessId, Refusal, User};
+    /// let mut host = Host::fresh(1024);
+    /// host.make(User::ROOT, GroupId::ROOT, GroupId(1))?;
+    /// host.admit(ProcessId(5), User(1000))?;
+    /// host.write_procs(User::ROOT, GroupId(1), "5")?;
+    /// assert_eq!(host.collect(ProcessId(5)), Err(Refusal::Esrch));
+    /// host.exit(ProcessId(5))?;
+    /// host.remove(User::ROOT, GroupId(1))?;
+    /// assert_eq!(host.make(User::ROOT, GroupId::ROOT, GroupId(1)), Err(Refusal::Eexist));
+    /// assert_eq!(host.collect(ProcessId(5)), Ok(()));
+    /// assert_eq!(host.make(User::ROOT, GroupId::ROOT, GroupId(1)), Ok(()));
+    /// assert_eq!(host.admit(ProcessId(5), User(1000)), Ok(()));
+    /// # Ok::<(), Refusal>(())
+    /// ```
+    pub fn collect(&mut self, process: ProcessId) -> Result<(), Refusal> {
+        // SAFETY: `tree` as the field says.
+        settle(unsafe { sys::ss_collect(self.tree.as_mut_ptr(), process) })
     }
 
     /// Charges pages to the cgroup of `process`. Answers the number of cgroups consulted.
@@ -383,9 +415,10 @@ impl Host {
         settle(number).map(|()| length as usize)
     }
 
-    /// The membership line of a process: "0::" and the path of its cgroup.
+    /// The membership line of a process: "0::" and the path of its cgroup. A zombie keeps the path
+    /// that it had when it ended, with " (deleted)" behind it once its own cgroup was removed.
     ///
-    /// ESRCH: no such live process.
+    /// ESRCH: neither live nor a zombie.
     ///
     /// ```
     /// # use shootspiral::{GroupId, Host, ProcessId, Refusal, User};
@@ -396,6 +429,9 @@ impl Host {
     /// assert_eq!(host.membership(ProcessId(5))?, b"0::/\n");
     /// host.write_procs(User::ROOT, GroupId(7), "5")?;
     /// assert_eq!(host.membership(ProcessId(5))?, b"0::/3/7\n");
+    /// host.exit(ProcessId(5))?;
+    /// host.remove(User::ROOT, GroupId(7))?;
+    /// assert_eq!(host.membership(ProcessId(5))?, b"0::/3/7 (deleted)\n");
     /// # Ok::<(), Refusal>(())
     /// ```
     pub fn membership(&self, process: ProcessId) -> Result<Vec<u8>, Refusal> {

@@ -11,7 +11,7 @@ use crate::number::GroupId;
 pub enum Refusal {
     /// The cgroup is not live, the file is absent there, or a controller is not available.
     Enoent = 2,
-    /// There is no such live process.
+    /// There is no such live process; to a collection, no such zombie.
     Esrch = 3,
     /// The depth limit, or a pids limit that stops a fork.
     Eagain = 11,
@@ -21,7 +21,7 @@ pub enum Refusal {
     Eacces = 13,
     /// The cgroup is in use, or the inner-process rule.
     Ebusy = 16,
-    /// The number is already live.
+    /// The number is taken: live, a zombie's, or that of a removed cgroup on a zombie's path.
     Eexist = 17,
     /// A number out of range, or malformed text.
     Einval = 22,
@@ -86,12 +86,12 @@ impl Refusal {
     fn meaning(self) -> &'static str {
         match self {
             Refusal::Enoent => "group not live, file absent there, controller not available",
-            Refusal::Esrch => "no such live process",
+            Refusal::Esrch => "no such live process, or no such zombie",
             Refusal::Eagain => "depth limit, or a pids limit stops a fork",
             Refusal::Enomem => "a memory limit or the machine stops a charge",
             Refusal::Eacces => "the user may not",
             Refusal::Ebusy => "group in use, or the inner-process rule",
-            Refusal::Eexist => "number already live",
+            Refusal::Eexist => "number taken",
             Refusal::Einval => "number out of range or text malformed",
             Refusal::Enospc => "reply buffer shorter than the reply, or a fifth device in io.max",
             Refusal::Erange => "figure outside its range, or too many pages released",

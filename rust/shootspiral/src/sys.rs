@@ -55,6 +55,8 @@ unsafe extern "C" {
 
     pub fn ss_exit(tree: *mut u64, process: ProcessId) -> u32;
 
+    pub fn ss_collect(tree: *mut u64, process: ProcessId) -> u32;
+
     /// `told` has two words: the first cgroup without room, 2^64 - 1 for none, and how many were
     /// consulted.
     pub fn ss_charge(tree: *mut u64, process: ProcessId, pages: u64, told: *mut u64) -> u32;

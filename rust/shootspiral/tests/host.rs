@@ -92,18 +92,57 @@ fn the_longest_reply() {
     assert_eq!(short, vec![b'.'; 4012]);
 }
 
-#[test]
-fn the_longest_membership_line() {
-    let host = full_tree();
-    let line = b"0::/240/241/242/243/244/245/246/247/248/249/250/251/252/253/254/255\n";
-    assert_eq!((line.len(), LONGEST_MEMBERSHIP), (68, 68));
+/// The membership line of process 1024, into a buffer that it fills and into one that is a byte short.
+fn assert_line(host: &Host, line: &[u8]) {
     assert_eq!(host.membership(ProcessId(1024)).unwrap(), line);
-    let mut reply = [b'.'; 68];
-    assert_eq!(host.membership_into(ProcessId(1024), &mut reply), Ok(68));
-    assert_eq!(&reply, line);
-    let mut short = [b'.'; 67];
+    let mut reply = vec![b'.'; line.len()];
+    assert_eq!(host.membership_into(ProcessId(1024), &mut reply), Ok(line.len()));
+    assert_eq!(reply, line);
+    let mut short = vec![b'.'; line.len() - 1];
     assert_eq!(host.membership_into(ProcessId(1024), &mut short), Err(Refusal::Enospc));
-    assert_eq!(short, [b'.'; 67]);
+    assert_eq!(short, vec![b'.'; line.len() - 1]);
+}
+
+#[test]
+fn the_longest_membership_lines() {
+    let mut host = full_tree();
+    let line = b"0::/240/241/242/243/244/245/246/247/248/249/250/251/252/253/254/255\n";
+    assert_eq!(line.len(), 68);
+    assert_line(&host, line);
+    for process in (1..=1024).map(ProcessId) {
+        host.exit(process).unwrap();
+    }
+    assert_line(&host, line);
+    host.remove(User::ROOT, GroupId(255)).unwrap();
+    let deleted = [line.strip_suffix(b"\n").unwrap(), b" (deleted)\n"].concat();
+    assert_eq!((deleted.len(), LONGEST_MEMBERSHIP), (78, 78));
+    assert_line(&host, &deleted);
+}
+
+/// A zombie's number and those of the removed cgroups on its path are taken until it is collected.
+#[test]
+fn numbers_are_free_when_a_zombie_is_collected() {
+    let mut host = Host::fresh(1024);
+    host.make(User::ROOT, GroupId::ROOT, GroupId(1)).unwrap();
+    host.make(User::ROOT, GroupId(1), GroupId(2)).unwrap();
+    host.admit(ProcessId(5), User(1000)).unwrap();
+    host.write_procs(User::ROOT, GroupId(2), "5").unwrap();
+    assert_eq!(host.collect(ProcessId(5)), Err(Refusal::Esrch));
+    host.exit(ProcessId(5)).unwrap();
+    host.remove(User::ROOT, GroupId(2)).unwrap();
+    host.remove(User::ROOT, GroupId(1)).unwrap();
+    assert_eq!(host.membership(ProcessId(5)).unwrap(), b"0::/1/2 (deleted)\n");
+    for group in [1, 2].map(GroupId) {
+        assert_eq!(host.make(User::ROOT, GroupId::ROOT, group), Err(Refusal::Eexist));
+        assert_eq!(host.read(group, file::PROCS), Err(Refusal::Enoent));
+    }
+    assert_eq!(host.admit(ProcessId(5), User(1000)), Err(Refusal::Eexist));
+    host.collect(ProcessId(5)).unwrap();
+    assert_eq!(host.collect(ProcessId(5)), Err(Refusal::Esrch));
+    assert_eq!(host.membership(ProcessId(5)), Err(Refusal::Esrch));
+    host.make(User::ROOT, GroupId::ROOT, GroupId(2)).unwrap();
+    host.make(User::ROOT, GroupId(2), GroupId(1)).unwrap();
+    host.admit(ProcessId(5), User(1000)).unwrap();
 }
 
 /// Cgroup 1 with the last devices that there can be, and the lines that io.max shows of them.
@@ -167,6 +206,8 @@ fn numbers_out_of_range_are_refused() {
         assert_eq!(host.charge(process, 1), Err(none));
         assert_eq!(host.fork(process, ProcessId(1)), Err(none));
         assert_eq!(host.membership(process), Err(Refusal::Esrch));
+        assert_eq!(host.exit(process), Err(Refusal::Esrch));
+        assert_eq!(host.collect(process), Err(Refusal::Esrch));
     }
 }
 

@@ -1,4 +1,5 @@
-//! Calls that bring out what no file shows: owners, own pages, the users of processes.
+//! Calls that bring out what no file shows: owners, own pages, the users of processes, which numbers
+//! are taken.
 
 use super::Pair;
 use crate::call::Call;
@@ -16,6 +17,7 @@ impl<H: Calls> Pair<H> {
         self.probe_owners(&mut probes);
         self.probe_pages(releases, &mut probes);
         self.probe_users(&mut probes);
+        self.probe_numbers(&mut probes);
         probes
     }
 
@@ -80,7 +82,7 @@ impl<H: Calls> Pair<H> {
     /// empty.
     fn aside(&self, probes: &mut Vec<Call>) -> Option<u64> {
         self.model.holds(0).next()?;
-        match (1..=LAST_GROUP).find(|&group| self.model.group(group).is_none()) {
+        match (1..=LAST_GROUP).find(|&group| self.model.is_unused(group)) {
             Some(group) => {
                 probes.push(Call::Make { user: 0, parent: 0, group });
                 Some(group)
@@ -88,5 +90,19 @@ impl<H: Calls> Pair<H> {
             None => (1..=LAST_GROUP)
                 .find(|&group| self.model.group(group).is_some_and(|kept| kept.set == EMPTY)),
         }
+    }
+
+    /// Groups are made of all numbers that are not live, and processes of zombies' numbers; where a
+    /// zombie stands in the way, once more when all are collected. Last of all, since little is free
+    /// after it.
+    fn probe_numbers(&self, probes: &mut Vec<Call>) {
+        let make = |group| Call::Make { user: 0, parent: 0, group };
+        let dead = (1..=LAST_GROUP).filter(|&group| self.model.group(group).is_none());
+        probes.extend(dead.map(make));
+        let admit = |process| Call::Admit { process, user: 0 };
+        probes.extend(self.model.zombies().map(admit));
+        probes.extend(self.model.zombies().map(|process| Call::Collect { process }));
+        probes.extend(self.model.removed_groups().map(make));
+        probes.extend(self.model.zombies().map(admit));
     }
 }

@@ -337,6 +337,7 @@ pub(super) fn pids_max_without_deepest(done: &mut Outcome) {
 /// Makes a process of the root user 0's.
 fn give_to_user_0(done: &mut Outcome, process: u64) {
     done.after.exit(process);
+    done.after.collect(process);
     done.after.admit(process, 0);
 }
 

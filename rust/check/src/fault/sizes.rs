@@ -37,6 +37,7 @@ fn change_processes(call: &mut Call, change: impl Fn(u64) -> u64) {
         }
         Call::Admit { process, .. }
         | Call::Exit { process }
+        | Call::Collect { process }
         | Call::Charge { process, .. }
         | Call::Membership { process, .. } => *process = change(*process),
         _ => {}
@@ -176,6 +177,12 @@ pub(super) fn fork_to_256(_: &Model, call: &mut Call) {
 
 pub(super) fn exit_to_256(_: &Model, call: &mut Call) {
     if let Call::Exit { process } = call {
+        end_process(process);
+    }
+}
+
+pub(super) fn collect_to_256(_: &Model, call: &mut Call) {
+    if let Call::Collect { process } = call {
         end_process(process);
     }
 }
@@ -451,9 +458,22 @@ pub(super) fn path_cut_at_28(reading: &mut Reading) -> u32 {
     reading.number
 }
 
-pub(super) fn lines_to_67(reading: &mut Reading) -> u32 {
+fn lines_to(reading: &mut Reading, bytes: u64) -> u32 {
     match reading.call {
-        Call::Membership { .. } => refused_above(reading, 67),
+        Call::Membership { .. } => refused_above(reading, bytes),
         _ => reading.number,
     }
+}
+
+pub(super) fn lines_to_67(reading: &mut Reading) -> u32 {
+    lines_to(reading, 67)
+}
+
+/// As many as there were before order 5.
+pub(super) fn lines_to_68(reading: &mut Reading) -> u32 {
+    lines_to(reading, 68)
+}
+
+pub(super) fn lines_to_77(reading: &mut Reading) -> u32 {
+    lines_to(reading, 77)
 }

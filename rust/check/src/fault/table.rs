@@ -1,7 +1,7 @@
 //! The faults, one after the other.
 
 use super::Slip::{Instead, Outcome, Reader, Swapped};
-use super::{Fault, devices, instead, outcomes, readers, sizes};
+use super::{Fault, devices, instead, outcomes, readers, sizes, zombies};
 use crate::checks::{
     charge, fork, make, release, remove, write_procs, write_setting, write_subtree_control,
 };
@@ -260,6 +260,82 @@ pub(super) const FAULTS: &[Fault] = &[
     fault("a membership line shows the eight highest groups", Reader(sizes::path_of_highest_eight)),
     fault("a membership line ends after 28 bytes", Reader(sizes::path_cut_at_28)),
     fault("a membership line of 68 bytes is refused", Reader(sizes::lines_to_67)),
+    fault("a membership line of more than 68 bytes is refused", Reader(sizes::lines_to_68)),
+    fault("a membership line of 78 bytes is refused", Reader(sizes::lines_to_77)),
+    // Zombies that count as live.
+    fault("a zombie stays in cgroup.procs", Reader(zombies::listed)),
+    fault("pids.current counts zombies", Reader(zombies::counted)),
+    fault("a zombie makes a group populated", Reader(zombies::populates)),
+    fault("pids.max counts zombies", Outcome(zombies::stops_fork)),
+    fault("a zombie stops the removal of its group", Outcome(zombies::stops_removal)),
+    fault("a zombie below stops a removal", Outcome(zombies::stops_removal_above)),
+    fault("a zombie is an inner process", Outcome(zombies::is_inner_process)),
+    fault("a move of a zombie is a success that does nothing", Outcome(zombies::move_is_success)),
+    fault("a zombie is moved", Outcome(zombies::moves)),
+    fault("a zombie is charged", Outcome(zombies::is_charged)),
+    fault("a zombie forks", Outcome(zombies::forks)),
+    fault("a zombie ends again", Outcome(zombies::ends_again)),
+    // Zombies' numbers.
+    fault("exit leaves no zombie", Outcome(zombies::gone_at_once)),
+    fault("admit takes a zombie's number", Outcome(zombies::free_to_admit)),
+    fault("fork takes a zombie's number", Outcome(zombies::free_to_fork)),
+    fault("collect ends a live process", Outcome(zombies::live_is_collected)),
+    fault("collect of a free number is a success", Outcome(zombies::free_is_collected)),
+    fault("collect of a number out of range is 22", Outcome(zombies::outside_is_22)),
+    fault("collect frees nothing", Outcome(zombies::not_collected)),
+    fault("collect frees all zombies of a group", Outcome(zombies::all_collected)),
+    fault("collect ends at process 256", Instead(sizes::collect_to_256)),
+    // Removed groups on zombies' paths.
+    fault("a removed number is made again at once", Outcome(zombies::made_at_once)),
+    fault(
+        "a removed number is made again though a zombie's path comes from below",
+        Outcome(zombies::made_above),
+    ),
+    fault(
+        "a removed number is made again though a zombie is two levels below and more",
+        Outcome(zombies::made_two_levels_above),
+    ),
+    fault(
+        "a removed number is made again though a zombie is in that group",
+        Outcome(zombies::made_in_place),
+    ),
+    fault(
+        "a removed number is made again under another parent",
+        Outcome(zombies::made_by_another_parent),
+    ),
+    fault("a zombie's line follows the number made again", Outcome(zombies::line_follows)),
+    fault(
+        "a number that a zombie's path ran through is never made again",
+        Outcome(zombies::taken_for_good),
+    ),
+    fault(
+        "a removed group above a zombie's own is left when the last was collected",
+        Outcome(zombies::above_taken_for_good),
+    ),
+    fault(
+        "collect clears removed groups that another zombie needs",
+        Outcome(zombies::clears_too_much),
+    ),
+    fault("only a zombie's own group is kept when removed", Outcome(zombies::above_forgotten)),
+    fault("a group is made under a removed one", Outcome(zombies::made_below_removed)),
+    fault("a removed group is read while a zombie is left", Reader(zombies::removed_is_read)),
+    fault(
+        "a removed group is 17 in every call while a zombie is left",
+        Outcome(zombies::removed_is_17),
+    ),
+    // Zombies' membership lines.
+    fault("\" (deleted)\" stands in every zombie's line", Reader(zombies::deleted_too_soon)),
+    fault("\" (deleted)\" is missing after the removal", Reader(zombies::never_deleted)),
+    fault(
+        "\" (deleted)\" is missing until the parent is removed too",
+        Reader(zombies::deleted_with_parent_only),
+    ),
+    fault("\" (deleted)\" stands after the newline", Reader(zombies::deleted_after_newline)),
+    fault("a zombie's path is cut at the removed group", Reader(zombies::path_cut)),
+    fault("a removed group's path is its number alone", Reader(zombies::path_without_parents)),
+    fault("a zombie has no membership line", Reader(zombies::no_line)),
+    fault("a zombie's line is gone with its group", Reader(zombies::no_line_after_removal)),
+    fault("a zombie's line is that of the root", Outcome(zombies::line_of_root)),
     // Two checks in the wrong order.
     fault(
         "remove asks for processes before the user",
@@ -298,7 +374,32 @@ pub(super) const FAULTS: &[Fault] = &[
         Swapped(write_setting::VALUE_RANGE, write_setting::FIFTH_DEVICE),
     ),
     fault("fork asks for room before 17", Swapped(fork::NEW_IS_LIVE, fork::PIDS_LIMIT)),
-    fault("charge asks for pages before the process", Swapped(charge::NOT_LIVE, charge::NO_PAGES)),
+    fault(
+        "fork asks for room before a zombie's number",
+        Swapped(fork::NEW_IS_ZOMBIE, fork::PIDS_LIMIT),
+    ),
+    fault(
+        "fork asks for the child's number before a zombie's",
+        Swapped(fork::PARENT_IS_ZOMBIE, fork::NEW_IS_0),
+    ),
+    fault(
+        "make asks for a zombie's path before the parent",
+        Swapped(make::PARENT_NOT_LIVE, make::NEW_ON_ZOMBIES_PATH),
+    ),
+    fault(
+        "make asks for the user before a zombie's path",
+        Swapped(make::NEW_ON_ZOMBIES_PATH, make::MAY_NOT_WRITE_PARENT),
+    ),
+    fault(
+        "make asks for the depth before a zombie's path",
+        Swapped(make::NEW_ON_ZOMBIES_PATH, make::PARENT_DEEPEST),
+    ),
+    fault(
+        "a move asks for the user before a zombie",
+        Swapped(write_procs::PROCESS_IS_ZOMBIE, write_procs::NOT_ITS_USER),
+    ),
+    fault("charge asks for pages before a zombie", Swapped(charge::IS_ZOMBIE, charge::NO_PAGES)),
+    fault("charge asks for pages before the process", Swapped(charge::FREE, charge::NO_PAGES)),
     fault(
         "release asks for the group before the pages",
         Swapped(release::NO_PAGES, release::NOT_LIVE),

@@ -136,6 +136,8 @@ impl Generator {
             self.edge(live)
         } else if self.random.percent(self.taste.absent) {
             self.free_group(model).unwrap_or(live)
+        } else if self.random.percent(self.taste.taken) {
+            self.random.one_of(model.removed_groups()).unwrap_or(live)
         } else {
             live
         }
@@ -151,14 +153,19 @@ impl Generator {
         self.random.one_of(deepest).unwrap_or(0)
     }
 
-    /// Mostly a group of this seed's pool that is not live.
+    /// Mostly a group of this seed's pool that can be made.
     pub(super) fn new_group(&mut self, model: &Model) -> u64 {
         if self.is_edge() {
             let live = self.group(model);
             return self.edge(live);
         }
+        if let Some(group) = self.random.one_of(model.removed_groups())
+            && self.random.percent(self.taste.taken)
+        {
+            return group;
+        }
         let pool = self.taste.groups.clone();
-        let free = pool.iter().copied().filter(|&group| model.group(group).is_none());
+        let free = pool.iter().copied().filter(|&group| model.is_unused(group));
         match self.random.one_of(free) {
             Some(group) if self.random.percent(90) => group,
             _ => self.random.pick(&pool),
@@ -173,21 +180,29 @@ impl Generator {
             self.edge(live)
         } else if self.random.percent(self.taste.absent) {
             self.free_process(model).unwrap_or(live)
+        } else if self.random.percent(self.taste.taken) {
+            self.random.one_of(model.zombies()).unwrap_or(live)
         } else {
             live
         }
     }
 
-    /// Mostly a process of this seed's pool that is not live.
+    /// Mostly a process of this seed's pool that is free, or another where all of them are taken.
     pub(super) fn new_process(&mut self, model: &Model) -> u64 {
         if self.is_edge() {
             let live = self.process(model);
             return self.edge(live);
         }
+        if let Some(zombie) = self.random.one_of(model.zombies())
+            && self.random.percent(self.taste.taken)
+        {
+            return zombie;
+        }
         let pool = self.taste.processes.clone();
-        let free = pool.iter().copied().filter(|&process| model.process(process).is_none());
+        let free = pool.iter().copied().filter(|&process| model.is_free(process));
         match self.random.one_of(free) {
             Some(process) if self.random.percent(90) => process,
+            None if self.random.percent(50) => self.free_process(model).unwrap_or(1),
             _ => self.random.pick(&pool),
         }
     }

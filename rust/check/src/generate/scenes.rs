@@ -19,6 +19,7 @@ mod processes;
 mod questions;
 mod stage;
 mod trees;
+mod zombies;
 
 /// The line that wants every controller.
 const ALL: &str = "+cpu +io +memory +pids";
@@ -26,7 +27,7 @@ const ALL: &str = "+cpu +io +memory +pids";
 type Scene = fn(&mut Generator, &mut Model);
 
 /// Scenes that come by dice.
-const BY_DICE: [Scene; 11] = [
+const BY_DICE: [Scene; 12] = [
     Generator::ladder,
     Generator::crowd,
     Generator::grove,
@@ -38,19 +39,32 @@ const BY_DICE: [Scene; 11] = [
     Generator::uproot,
     Generator::inner_process,
     Generator::tight_reads,
+    Generator::no_zombies,
 ];
 
-/// Scenes that come one after the other.
-const IN_TURN: [Scene; 19] = [
+/// Scenes of seeds that are heavy in zombies.
+const OF_ZOMBIES: [Scene; 5] = [
+    Generator::burial,
+    Generator::burial,
+    Generator::uncounted,
+    Generator::uproot,
+    Generator::no_zombies,
+];
+
+/// Scenes that come one after the other. Their number has no factor in common with `TURNS`, so that
+/// seeds begin at each of them.
+const IN_TURN: [Scene; 21] = [
     Generator::cross_make,
     Generator::bounds,
     Generator::cross_control,
     Generator::lineage,
     Generator::cross_births,
     Generator::afterlife,
+    Generator::burial,
     Generator::cross_settings,
     Generator::device_room,
     Generator::hoard,
+    Generator::uncounted,
     Generator::cross_procs,
     Generator::odd_numbers,
     Generator::cross_groups,
@@ -62,6 +76,11 @@ const IN_TURN: [Scene; 19] = [
     Generator::cross_reads,
     Generator::long_lines,
 ];
+
+/// Whether the list of a seed is heavy in zombies: a tenth of all are.
+pub(super) fn has_many_zombies(seed: u64) -> bool {
+    seed % 10 == 4
+}
 
 /// Whether the list of a seed begins with every process live. Few do: they are long.
 pub(super) fn has_full_house(seed: u64) -> bool {
@@ -77,7 +96,11 @@ impl Generator {
     pub(super) fn opening(&mut self, seed: u64, model: &Model) {
         let mut sketch = model.clone();
         if has_full_house(seed) {
+            // A call between would take a number or a place.
+            self.taste.steady = 100;
             self.house(&mut sketch, LAST_PROCESS);
+        } else if has_many_zombies(seed) {
+            self.burial(&mut sketch);
         } else if seed % 20 == 19 {
             self.house(&mut sketch, 256);
         } else if self.random.percent(80) {
@@ -87,7 +110,9 @@ impl Generator {
     }
 
     pub(super) fn scene(&mut self, model: &Model) {
-        let scene = if self.random.percent(50) {
+        let scene = if self.taste.has_many_zombies && self.random.percent(80) {
+            self.random.pick(&OF_ZOMBIES)
+        } else if self.random.percent(50) {
             self.random.pick(&BY_DICE)
         } else {
             self.turn += 1;
@@ -150,12 +175,11 @@ impl Generator {
     }
 
     pub(super) fn free_group(&mut self, sketch: &Model) -> Option<u64> {
-        self.random.one_of((1..=LAST_GROUP).filter(|&group| sketch.group(group).is_none()))
+        self.random.one_of((1..=LAST_GROUP).filter(|&group| sketch.is_unused(group)))
     }
 
     pub(super) fn free_process(&mut self, sketch: &Model) -> Option<u64> {
-        let free = |&process: &u64| sketch.process(process).is_none();
-        self.random.one_of((1..=LAST_PROCESS).filter(free))
+        self.random.one_of((1..=LAST_PROCESS).filter(|&process| sketch.is_free(process)))
     }
 
     pub(super) fn live_group(&mut self, sketch: &Model) -> u64 {

@@ -57,6 +57,13 @@ impl Generator {
                 Call::Fork { parent: self.process(model), process: self.new_process(model) }
             }
             Kind::Exit => Call::Exit { process: self.process(model) },
+            Kind::Collect => {
+                let process = match self.random.one_of(model.zombies()) {
+                    Some(zombie) if self.random.percent(85) => zombie,
+                    _ => self.process(model),
+                };
+                Call::Collect { process }
+            }
             Kind::Charge => {
                 let process = self.process(model);
                 Call::Charge { process, pages: self.pages(model, process) }
@@ -88,7 +95,11 @@ impl Generator {
                 self.with_room(model, question)
             }
             Kind::Membership => {
-                let question = Call::Membership { process: self.process(model), room: ROOM };
+                let process = match self.random.one_of(model.zombies()) {
+                    Some(zombie) if self.random.percent(40) => zombie,
+                    _ => self.process(model),
+                };
+                let question = Call::Membership { process, room: ROOM };
                 self.with_room(model, question)
             }
             Kind::FirstBadWord => {

@@ -36,6 +36,9 @@ pub(super) struct Taste {
     pub odd_lines: u64,
     /// Numbers in range that are not live.
     pub absent: u64,
+    /// Numbers that are not live, yet taken: zombies', and those of removed groups on their paths.
+    pub taken: u64,
+    pub has_many_zombies: bool,
     /// Scenes begun after single calls, and calls of a scene before others that come between.
     pub scenes: u64,
     pub steady: u64,
@@ -53,6 +56,7 @@ pub(super) enum Kind {
     Admit,
     Fork,
     Exit,
+    Collect,
     Charge,
     Release,
     Read,
@@ -60,7 +64,7 @@ pub(super) enum Kind {
     FirstBadWord,
 }
 
-const KINDS: [(Kind, u64); 14] = [
+const KINDS: [(Kind, u64); 15] = [
     (Kind::Make, 4),
     (Kind::Remove, 2),
     (Kind::HandOver, 2),
@@ -70,6 +74,7 @@ const KINDS: [(Kind, u64); 14] = [
     (Kind::Admit, 3),
     (Kind::Fork, 3),
     (Kind::Exit, 2),
+    (Kind::Collect, 2),
     (Kind::Charge, 5),
     (Kind::Release, 3),
     (Kind::Read, 3),
@@ -78,7 +83,7 @@ const KINDS: [(Kind, u64); 14] = [
 ];
 
 impl Taste {
-    pub fn of(random: &mut Random) -> Taste {
+    pub fn of(random: &mut Random, has_many_zombies: bool) -> Taste {
         let some_users = random.within(1, 4) as usize;
         let some_groups = random.pick(&[3, 8, 20, LAST_GROUP]);
         let some_processes = random.pick(&[2, 6, 40, LAST_PROCESS]);
@@ -92,16 +97,24 @@ impl Taste {
             deep: random.pick(&[5, 40, 80]),
             odd_lines: random.pick(&[5, 20, 50]),
             absent: random.pick(&[1, 3, 8]),
-            scenes: random.pick(&[10, 16, 24]),
+            taken: if has_many_zombies { 15 } else { random.pick(&[1, 3, 8]) },
+            has_many_zombies,
+            scenes: if has_many_zombies { 40 } else { random.pick(&[10, 16, 24]) },
             steady: random.pick(&[90, 97, 100]),
-            weights: KINDS.map(|(kind, weight)| (kind, weight * favour(random, kind))).into(),
+            weights: KINDS
+                .map(|(kind, weight)| (kind, weight * favour(random, kind, has_many_zombies)))
+                .into(),
         }
     }
 }
 
-/// How much a seed favours a kind of call: some not at all, but no tree stays empty.
-fn favour(random: &mut Random, kind: Kind) -> u64 {
+/// How much a seed favours a kind of call: some not at all, but no tree stays empty. Where there are
+/// to be many zombies, processes come and go, and so do groups.
+fn favour(random: &mut Random, kind: Kind, has_many_zombies: bool) -> u64 {
     match kind {
+        Kind::Make | Kind::Admit | Kind::WriteProcs if has_many_zombies => 3,
+        Kind::Fork | Kind::Exit | Kind::Remove if has_many_zombies => 6,
+        Kind::Collect if has_many_zombies => random.pick(&[0, 1]),
         Kind::Make | Kind::Admit => random.pick(&[1, 1, 3]),
         _ => random.pick(&[0, 1, 1, 3]),
     }

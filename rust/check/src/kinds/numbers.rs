@@ -3,7 +3,7 @@
 use super::{Kind, kind};
 use crate::call::Call;
 use crate::checks::{
-    Check, admit, charge, exit, fork, hand_over, make, membership, read, release, remove,
+    Check, admit, charge, collect, exit, fork, hand_over, make, membership, read, release, remove,
     write_procs, write_setting, write_subtree_control,
 };
 use crate::model::{LAST_GROUP, LAST_PROCESS};
@@ -20,11 +20,19 @@ pub(super) const GROUPS: &[&str] = &[
     "read",
 ];
 
-pub(super) const PROCESSES: &[&str] =
-    &["admit", "fork, parent", "fork, new", "exit", "charge", "membership", "write_procs"];
+pub(super) const PROCESSES: &[&str] = &[
+    "admit",
+    "fork, parent",
+    "fork, new",
+    "exit",
+    "collect",
+    "charge",
+    "membership",
+    "write_procs",
+];
 
 /// The checks that refuse a number above the last.
-const ABOVE: [&Check; 16] = [
+const ABOVE: [&Check; 17] = [
     make::PARENT_ABOVE_LAST,
     make::NEW_ABOVE_LAST,
     remove::ABOVE_LAST,
@@ -37,6 +45,7 @@ const ABOVE: [&Check; 16] = [
     fork::PARENT_OUTSIDE,
     fork::NEW_ABOVE_LAST,
     exit::OUTSIDE,
+    collect::OUTSIDE,
     charge::OUTSIDE,
     release::ABOVE_LAST,
     read::ABOVE_LAST,

@@ -30,6 +30,7 @@ impl Model {
                 self.fork_checks(*parent, *process, &self.room_for_fork(*parent)).into()
             }
             Call::Exit { process } => self.exit_checks(*process).into(),
+            Call::Collect { process } => self.collect_checks(*process).into(),
             Call::Charge { process, pages } => {
                 let asked = self.room_for_charge(*process, *pages);
                 self.charge_checks(*process, *pages, &asked).into()
@@ -90,6 +91,10 @@ impl Calls for Model {
 
     fn exit(&mut self, process: u64) -> u32 {
         number_of(self.try_exit(process))
+    }
+
+    fn collect(&mut self, process: u64) -> u32 {
+        number_of(self.try_collect(process))
     }
 
     fn charge(&mut self, process: u64, pages: u64, told: &mut [u64; 2]) -> u32 {

@@ -8,13 +8,16 @@ const ALL: [usize; 4] = [CPU, IO, MEMORY, PIDS];
 
 // cgroup.procs.
 impl Model {
-    pub(super) fn write_procs_checks(&self, user: u32, group: u64, line: &[u8]) -> [Test; 13] {
+    pub(super) fn write_procs_checks(&self, user: u32, group: u64, line: &[u8]) -> [Test; 14] {
         let words = words(line).len();
         let number = one_number(line);
-        let process = number.and_then(|number| self.process(u64::try_from(number).ok()?));
+        let named = number.and_then(|number| u64::try_from(number).ok());
+        let process = named.and_then(|named| self.process(named));
+        let is_zombie = named.is_some_and(|named| self.is_zombie(named));
         let lowest = process.and_then(|process| self.lowest_on_both(process.group, group));
         let has_set = self.group(group).is_some_and(|g| g.set != EMPTY);
         let is_above = number.is_some_and(|number| number > u128::from(LAST_PROCESS));
+        let is_free = number.is_some() && !is_above && process.is_none() && !is_zombie;
         [
             (group > LAST_GROUP, write_procs::ABOVE_LAST),
             (self.group(group).is_none(), write_procs::NOT_LIVE),
@@ -25,7 +28,8 @@ impl Model {
             (words == 1 && number.is_none(), write_procs::NOT_A_NUMBER),
             (number == Some(0), write_procs::IS_0),
             (is_above, write_procs::PROCESS_ABOVE_LAST),
-            (number.is_some() && !is_above && process.is_none(), write_procs::PROCESS_NOT_LIVE),
+            (is_free, write_procs::PROCESS_FREE),
+            (is_zombie, write_procs::PROCESS_IS_ZOMBIE),
             (user != 0 && process.is_none_or(|p| p.user != user), write_procs::NOT_ITS_USER),
             (
                 user != 0 && lowest.is_none_or(|lowest| !self.may_write(user, lowest)),

@@ -7,7 +7,13 @@ impl Model {
         let root = Group { parent: ROOT, owner: 0, set: EMPTY, own_pages: 0, settings: DEFAULTS };
         let mut groups = vec![None; LAST_GROUP as usize + 1];
         groups[ROOT as usize] = Some(Box::new(root));
-        Model { machine: machine.min(LARGEST_MACHINE), groups, processes: BTreeMap::new() }
+        Model {
+            machine: machine.min(LARGEST_MACHINE),
+            groups,
+            processes: BTreeMap::new(),
+            zombies: BTreeMap::new(),
+            removed: BTreeMap::new(),
+        }
     }
 
     pub fn machine(&self) -> u64 {
@@ -28,9 +34,23 @@ impl Model {
         self.processes.get(&process)
     }
 
-    /// Whether the number is in range and the process is free.
-    pub(super) fn is_free(&self, process: u64) -> bool {
-        !is_outside(process) && self.process(process).is_none()
+    pub fn is_zombie(&self, process: u64) -> bool {
+        self.zombies.contains_key(&process)
+    }
+
+    /// Whether the number is in range and neither a live process's nor a zombie's.
+    pub fn is_free(&self, process: u64) -> bool {
+        !is_outside(process) && self.process(process).is_none() && !self.is_zombie(process)
+    }
+
+    /// Whether the number is that of a removed group, and a zombie's path runs through it.
+    pub fn is_on_zombies_path(&self, group: u64) -> bool {
+        self.removed.contains_key(&group)
+    }
+
+    /// Whether the number is in range and a group of it can be made.
+    pub fn is_unused(&self, group: u64) -> bool {
+        group <= LAST_GROUP && self.group(group).is_none() && !self.is_on_zombies_path(group)
     }
 
     pub fn live_groups(&self) -> impl Iterator<Item = u64> {
@@ -39,6 +59,15 @@ impl Model {
 
     pub fn live_processes(&self) -> impl Iterator<Item = u64> {
         self.processes.keys().copied()
+    }
+
+    pub fn zombies(&self) -> impl Iterator<Item = u64> {
+        self.zombies.keys().copied()
+    }
+
+    /// The numbers of removed groups through which a zombie's path runs.
+    pub fn removed_groups(&self) -> impl Iterator<Item = u64> {
+        self.removed.keys().copied()
     }
 
     pub fn children(&self, group: u64) -> impl Iterator<Item = u64> {
@@ -60,6 +89,19 @@ impl Model {
     pub fn chain(&self, group: u64) -> Vec<u64> {
         let live = self.group(group).map(|_| group);
         std::iter::successors(live, |&lowest| self.parent(lowest)).collect()
+    }
+
+    /// The group of a zombie, its parent and so on to the root, removed ones included; empty if it is
+    /// no zombie.
+    pub fn path(&self, zombie: u64) -> Vec<u64> {
+        let above = |&group: &u64| self.parent(group).or_else(|| self.removed.get(&group).copied());
+        std::iter::successors(self.zombies.get(&zombie).copied(), above).collect()
+    }
+
+    /// Keeps of removed groups those that a zombie's path runs through.
+    pub(crate) fn forget_removed(&mut self) {
+        let needed: BTreeSet<u64> = self.zombies().flat_map(|zombie| self.path(zombie)).collect();
+        self.removed.retain(|group, _| needed.contains(group));
     }
 
     pub fn depth(&self, group: u64) -> usize {

@@ -4,12 +4,13 @@ use super::*;
 use crate::checks::{hand_over, make, remove};
 
 impl Model {
-    pub(super) fn make_checks(&self, user: u32, parent: u64, new: u64) -> [Test; 6] {
+    pub(super) fn make_checks(&self, user: u32, parent: u64, new: u64) -> [Test; 7] {
         [
             (parent > LAST_GROUP, make::PARENT_ABOVE_LAST),
             (new > LAST_GROUP, make::NEW_ABOVE_LAST),
             (self.group(parent).is_none(), make::PARENT_NOT_LIVE),
             (self.group(new).is_some(), make::NEW_IS_LIVE),
+            (self.is_on_zombies_path(new), make::NEW_ON_ZOMBIES_PATH),
             (!self.may_write(user, parent), make::MAY_NOT_WRITE_PARENT),
             (self.depth(parent) == DEEPEST, make::PARENT_DEEPEST),
         ]
@@ -39,6 +40,8 @@ impl Model {
         decide(&self.remove_checks(user, group))?;
         let removed = self.groups[group as usize].take().expect("checked");
         self.group_mut(removed.parent).own_pages += removed.own_pages;
+        self.removed.insert(group, removed.parent);
+        self.forget_removed();
         Ok(())
     }
 

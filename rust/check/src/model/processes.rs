@@ -2,7 +2,7 @@
 
 use super::*;
 use crate::calls::NO_GROUP;
-use crate::checks::{admit, charge, exit, fork, release};
+use crate::checks::{admit, charge, collect, exit, fork, release};
 
 /// What a charge or a fork found on its way up: the first group that has no room, and the number
 /// of groups consulted, up to and including that group, or depth plus one.
@@ -36,11 +36,12 @@ impl Model {
 
 // Processes.
 impl Model {
-    pub(super) fn admit_checks(&self, process: u64) -> [Test; 3] {
+    pub(super) fn admit_checks(&self, process: u64) -> [Test; 4] {
         [
             (process == 0, admit::IS_0),
             (process > LAST_PROCESS, admit::ABOVE_LAST),
             (self.process(process).is_some(), admit::IS_LIVE),
+            (self.is_zombie(process), admit::IS_ZOMBIE),
         ]
     }
 
@@ -57,13 +58,15 @@ impl Model {
         })
     }
 
-    pub(super) fn fork_checks(&self, parent: u64, new: u64, asked: &Consulted) -> [Test; 6] {
+    pub(super) fn fork_checks(&self, parent: u64, new: u64, asked: &Consulted) -> [Test; 8] {
         [
             (is_outside(parent), fork::PARENT_OUTSIDE),
-            (self.is_free(parent), fork::PARENT_NOT_LIVE),
+            (self.is_free(parent), fork::PARENT_FREE),
+            (self.is_zombie(parent), fork::PARENT_IS_ZOMBIE),
             (new == 0, fork::NEW_IS_0),
             (new > LAST_PROCESS, fork::NEW_ABOVE_LAST),
             (self.process(new).is_some(), fork::NEW_IS_LIVE),
+            (self.is_zombie(new), fork::NEW_IS_ZOMBIE),
             (asked.full.is_some(), fork::PIDS_LIMIT),
         ]
     }
@@ -78,13 +81,33 @@ impl Model {
         Ok(())
     }
 
-    pub(super) fn exit_checks(&self, process: u64) -> [Test; 2] {
-        [(is_outside(process), exit::OUTSIDE), (self.is_free(process), exit::NOT_LIVE)]
+    pub(super) fn exit_checks(&self, process: u64) -> [Test; 3] {
+        [
+            (is_outside(process), exit::OUTSIDE),
+            (self.is_free(process), exit::FREE),
+            (self.is_zombie(process), exit::IS_ZOMBIE),
+        ]
     }
 
     pub(super) fn try_exit(&mut self, process: u64) -> Verdict {
         decide(&self.exit_checks(process))?;
-        self.processes.remove(&process);
+        let ended = self.processes.remove(&process).expect("checked");
+        self.zombies.insert(process, ended.group);
+        Ok(())
+    }
+
+    pub(super) fn collect_checks(&self, process: u64) -> [Test; 3] {
+        [
+            (is_outside(process), collect::OUTSIDE),
+            (self.is_free(process), collect::FREE),
+            (self.process(process).is_some(), collect::IS_LIVE),
+        ]
+    }
+
+    pub(super) fn try_collect(&mut self, process: u64) -> Verdict {
+        decide(&self.collect_checks(process))?;
+        self.zombies.remove(&process);
+        self.forget_removed();
         Ok(())
     }
 }
@@ -101,10 +124,11 @@ impl Model {
         })
     }
 
-    pub(super) fn charge_checks(&self, process: u64, pages: u64, asked: &Consulted) -> [Test; 6] {
+    pub(super) fn charge_checks(&self, process: u64, pages: u64, asked: &Consulted) -> [Test; 7] {
         [
             (is_outside(process), charge::OUTSIDE),
-            (self.is_free(process), charge::NOT_LIVE),
+            (self.is_free(process), charge::FREE),
+            (self.is_zombie(process), charge::IS_ZOMBIE),
             (pages == 0, charge::NO_PAGES),
             (pages > MOST_PAGES, charge::TOO_MANY_PAGES),
             (asked.full.is_some_and(|full| full != ROOT), charge::MEMORY_LIMIT),

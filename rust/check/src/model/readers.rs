@@ -98,19 +98,25 @@ impl Model {
 
 // Membership lines.
 impl Model {
-    /// "0::" and the path, from the root's child down; empty if the process is not live.
+    /// "0::" and the path, from the root's child down, and whether a zombie's own group was removed;
+    /// empty if the process is free.
     pub(super) fn membership_line(&self, process: u64) -> String {
-        let Some(process) = self.process(process) else { return String::new() };
-        let below_root = self.chain(process.group).into_iter().rev().skip(1);
+        let path = match self.process(process) {
+            Some(process) => self.chain(process.group),
+            None => self.path(process),
+        };
+        let Some(&own) = path.first() else { return String::new() };
+        let end = if self.group(own).is_none() { " (deleted)" } else { "" };
+        let below_root = path.into_iter().rev().skip(1);
         let path: String = below_root.map(|group| format!("/{group}")).collect();
         let path = if path.is_empty() { "/" } else { &path };
-        format!("0::{path}\n")
+        format!("0::{path}{end}\n")
     }
 
     pub(super) fn membership_checks(&self, process: u64, line: &str, room: usize) -> [Test; 3] {
         [
             (is_outside(process), membership::OUTSIDE),
-            (self.is_free(process), membership::NOT_LIVE),
+            (self.is_free(process), membership::FREE),
             (line.len() > room, membership::SHORT_BUFFER),
         ]
     }

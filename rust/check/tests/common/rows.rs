@@ -43,6 +43,10 @@ pub fn exit(process: u64) -> Call {
     Call::Exit { process }
 }
 
+pub fn collect(process: u64) -> Call {
+    Call::Collect { process }
+}
+
 pub fn charge(process: u64, pages: u64) -> Call {
     Call::Charge { process, pages }
 }
@@ -69,7 +73,7 @@ pub fn descent() -> [Call; 16] {
     })
 }
 
-/// The membership line there, the longest that there is.
+/// The membership line there, the longest that a live process has.
 pub const DEEP_LINE: &str = "0::/240/241/242/243/244/245/246/247/248/249/250/251/252/253/254/255\n";
 
 /// What stands after a text in its buffer.

@@ -5,14 +5,14 @@ use native.Mathlib.Omega.{arith}
 use mathlib.Core.Path.{_∙_}
 use borrow.Fn.Kinds.{In}
 use borrow.Fn.PlainCycle.{Measures, is, falls, and}
-use Rattle.model.specs.Tree.{parents}
+use Rattle.model.specs.Zombies.{pathParents}
 use Rattle.text.proofs.WriteLaws.{appended-then, appended-as, appended-nothing}
 use Rattle.text.proofs.write.put_byte.Reads as put-byte-reads
 use Rattle.text.proofs.write.put_number.Reads as put-number-reads
 use Rattle.tree.specs.Layout.{view}
-use Rattle.tree.proofs.group.parent.Reads as parent-reads
 use Rattle.model.proofs.LengthLaws.{path-none}
-use Rattle.files.proofs.PathLaws.{path-text, path-fits, path-above}
+use Rattle.files.proofs.PathLaws.{there-low, path-text, path-fits, path-above}
+use Rattle.files.proofs.path.path_parent.Reads as path-parent-reads
 use Rattle.files.proofs.path.+put_path.{statement}
 use Rattle.files.proofs.path.+put_path.Lts-put_path as lts
 use Rattle.files.proofs.path.put_path.Kinds as put-path-kinds
@@ -32,8 +32,8 @@ put-path-below t =
 -- what is known of the callees: of `put_path` itself, at smaller depths
 abbrev claims : ℕ → lts.Claims
 claims t = (
-  parent-reads.Asked,
-  parent-reads.Learnt,
+  path-parent-reads.Asked,
+  path-parent-reads.Learnt,
   put-path-below t,
   put-path.Post,
   put-byte-reads.Asked,
@@ -47,11 +47,11 @@ module _ (t : ℕ) where
   returns : lts.Need-returns (claims t) (put-path-at t) put-path.Post
   returns c =
       let a = c .before .before .args in
-      appended-as (path-none (parents (view (a .t .now))) (a .deep) (a .g .0) (c .if1 .taken))
+      appended-as (path-none (pathParents (view (a .t .now))) (a .deep) (a .g .0) (c .if1 .taken))
       (appended-nothing (a .out .now) (a .at))
 
-  parent-requires : lts.Need-parent-requires (claims t) (put-path-at t) put-path.Post
-  parent-requires c κs = let k = c .before .before .pre .1 .group in k .kept .formed .sound .range _ (k .live)
+  path-parent-requires : lts.Need-path-parent-requires (claims t) (put-path-at t) put-path.Post
+  path-parent-requires c κs = there-low (c .before .before .pre .1 .group)
 
   sub-put-path : lts.Need-sub-put-path (claims t) (put-path-at t) put-path.Post
   sub-put-path c = omega (arith, c .before .if1 .left)
@@ -61,7 +61,7 @@ module _ (t : ℕ) where
       let u = c .before in
       let s = u .before .before .before in (
         omega (arith, u .before .if1 .left, s .pre .0),
-        path-above _ _ _ _ _ (s .pre .1) (u .before .if1 .left) _ (u .parent .ensures),
+        path-above _ _ _ _ _ (s .pre .1) (u .before .if1 .left) _ (u .path-parent .ensures),
       )
 
   put-byte-requires : lts.Need-put-byte-requires (claims t) (put-path-at t) put-path.Post
@@ -71,7 +71,7 @@ module _ (t : ℕ) where
       let s = u .before .before .before in
       omega (
         arith,
-        path-fits _ _ _ _ _ (s .pre .1) (u .before .if1 .left) _ (u .parent .ensures),
+        path-fits _ _ _ _ _ (s .pre .1) (u .before .if1 .left) _ (u .path-parent .ensures),
         p .put-path .ensures .end,
         p .put-path .kept .1 .1 .1 .0,
       )
@@ -84,7 +84,7 @@ module _ (t : ℕ) where
       let s = u .before .before .before in
       omega (
         arith,
-        path-fits _ _ _ _ _ (s .pre .1) (u .before .if1 .left) _ (u .parent .ensures),
+        path-fits _ _ _ _ _ (s .pre .1) (u .before .if1 .left) _ (u .path-parent .ensures),
         p .put-path .ensures .end,
         p .put-path .kept .1 .1 .1 .0,
         b .put-byte .ensures .end,
@@ -106,7 +106,7 @@ module _ (t : ℕ) where
       let p = b .before .before .before .before in
       let u = p .before .before in
       let s = u .before .before .before in
-      appended-as (path-text _ _ _ _ _ (s .pre .1) (u .before .if1 .left) _ (u .parent .ensures))
+      appended-as (path-text _ _ _ _ _ (s .pre .1) (u .before .if1 .left) _ (u .path-parent .ensures))
       (appended-then (p .put-path .ensures) (appended-then (b .put-byte .ensures) (n .put-number .ensures)))
 
 pub +put-path-spec : {M : Type 1} → statement M
@@ -115,7 +115,7 @@ pub +put-path-spec : {M : Type 1} → statement M
     (put-path-at t)
     put-path.Post
     (returns t)
-    (parent-requires t)
+    (path-parent-requires t)
     (sub-put-path t)
     (put-path-requires t)
     (put-byte-requires t)

@@ -15,16 +15,16 @@ returns c =
     let s = c .before .before .before in
     membership-no-number (s .args .tree .now) (s .args .process .0) (s .args .reply .now) (s .pre) (c .if1 .taken)
 
-is-process-requires : tie.Need-is-process-requires
-is-process-requires c κs = search needs
+is-taken-requires : tie.Need-is-taken-requires
+is-taken-requires c κs = search needs
 
--- not live
+-- neither live nor a zombie
 returns-2 : tie.Need-returns-2
 returns-2 c =
     let p = c .before in
     let s = p .before .before .before .before in
     membership-dead (s .args .tree .now) (s .args .process .0) (s .args .reply .now)
-    (sym (p .is-process .ensures) ∙ not-true _ (c .if2 .taken))
+    (sym (p .is-taken .ensures) ∙ not-true _ (c .if2 .taken))
 
 slice-aggregate-put-membership : tie.Need-slice-aggregate-put-membership
 slice-aggregate-put-membership c = search needs
@@ -34,7 +34,7 @@ put-membership-requires c κs =
     let i = c .before in
     let p = i .before in
     let s = p .before .before .before .before in
-    record { kept = s .pre; live = sym (p .is-process .ensures) ∙ not-false _ (i .if2 .left); room = omega arith }
+    record { kept = s .pre; taken = sym (p .is-taken .ensures) ∙ not-false _ (i .if2 .left); room = omega arith }
 
 array-share-prefix-scratch : tie.Need-array-share-prefix-scratch
 array-share-prefix-scratch c =
@@ -61,7 +61,7 @@ returns-3 c =
     let p = i .before in
     let s = p .before .before .before .before in
     membership-delivered (s .args .tree .now) (s .args .process .0) (s .args .reply .now)
-    (sym (p .is-process .ensures) ∙ not-false _ (i .if2 .left))
+    (sym (p .is-taken .ensures) ∙ not-false _ (i .if2 .left))
     (w .put-membership .ensures)
     (d .deliver .ensures)
 
@@ -70,7 +70,7 @@ membership-spec =
     tie.close
     (tie.spec
     returns
-    is-process-requires
+    is-taken-requires
     returns-2
     slice-aggregate-put-membership
     put-membership-requires

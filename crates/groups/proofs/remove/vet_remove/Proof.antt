@@ -1,8 +1,10 @@
 -- `groups::remove::vet_remove` meets its contract: its tests in their order are the definitions' checks.
 -- Assumes nothing.
-use borrow.Author.Tests.{not-false}
+use borrow.Author.Tests.{lt-leb, ne-eqb, not-false}
+use Rattle.model.specs.Checks.{barred, past, met}
 use Rattle.model.specs.Calls.{checks, verdict}
-use Rattle.model.proofs.VetLaws.{tested, vets}
+use Rattle.model.proofs.CheckLaws.{says-first}
+use Rattle.model.proofs.VetLaws.{tested, may-write-parent, vets}
 use Rattle.tree.specs.Kept.{KeptAt}
 use Rattle.tree.proofs.KeptLaws.{parent-low}
 use borrow.Author.Needs.{needs}
@@ -60,7 +62,7 @@ has-process-requires c κs = live-at (c .before .before .before .before .before 
 -- 16: a live process
 returns-6 : tie.Need-returns-6
 unfolding verdict checks
-returns-6 c = search vets depth 12 fits 4000
+returns-6 c = search (says-first, barred, past, met, lt-leb, ne-eqb, not-false, tested, may-write-parent) depth 12 fits 4000
 
 -- done
 returns-7 : tie.Need-returns-7

@@ -124,7 +124,8 @@ adjust-requires c κs =
 put-process-requires : tie.Need-put-process-requires
 put-process-requires c κs =
     let m = c .before in
-    enter-rows _ _ _ (vacant (group-at (user-at (chain-at (found-at (m .before .before .before)))))) _ _ (m .adjust .ensures)
+    let e = m .before .before .before in
+    enter-rows _ _ _ (vacant (group-at (user-at (chain-at (found-at e))))) _ _ (counted e) (m .adjust .ensures)
 
 -- granted
 returns-3 : tie.Need-returns-3

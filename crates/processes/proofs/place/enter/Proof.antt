@@ -18,7 +18,7 @@ adjust-requires : tie.Need-adjust-requires
 adjust-requires c κs = let a = c .before in enter-countable _ _ _ (start a .pre) _ (a .adjust-up .ensures) _ (omega arith)
 
 put-process-requires : tie.Need-put-process-requires
-put-process-requires c κs = let m = c .before in enter-rows _ _ _ (start (above-at m) .pre) _ _ (m .adjust .ensures)
+put-process-requires c κs = let m = c .before in enter-rows _ _ _ (start (above-at m) .pre) _ _ (above-at m .adjust-up .ensures) (m .adjust .ensures)
 
 returns : tie.Need-returns
 returns c =

@@ -10,7 +10,8 @@ use crate::model::{LAST_GROUP, LAST_PROCESS, Model};
 impl Generator {
     /// A group that had everything and is removed; every call on its number, on one that never was
     /// live or on one above the last; then it is made again under another parent, by another user, where
-    /// all its settings show.
+    /// all its settings show. If a zombie is left of it, that is collected first, but not before it was
+    /// tried.
     pub(super) fn afterlife(&mut self, sketch: &mut Model) {
         let above = self.live_group(sketch);
         let Some(group) = self.child(sketch, 0, above) else { return };
@@ -41,18 +42,30 @@ impl Generator {
         let parent = self.live_group(sketch);
         let user = self.writer(sketch, parent);
         self.plan(sketch, Call::Make { user, parent, group });
+        if sketch.is_on_zombies_path(group) {
+            let is_its = |zombie: &u64| sketch.path(*zombie).contains(&group);
+            let zombies: Vec<u64> = sketch.zombies().filter(is_its).collect();
+            for process in zombies {
+                self.plan(sketch, Call::Collect { process });
+            }
+            self.plan(sketch, Call::Make { user, parent, group });
+        }
         self.reach(sketch, group, ALL);
         self.plan(sketch, Call::Release { group, pages: 1 });
         self.plan(sketch, Call::WriteSubtreeControl { user: owner, group, line: vec![] });
     }
 
-    /// Pages, an owner, settings and a set.
+    /// Pages, an owner, settings and a set, and perhaps a zombie.
     fn enrich(&mut self, sketch: &mut Model, group: u64, owner: u32) {
         self.reach(sketch, group, ALL);
         if let Some(process) = self.settler(sketch, owner, group) {
             let pages = self.random.within(1, 9);
             self.plan(sketch, Call::Charge { process, pages });
-            self.migrate(sketch, 0, process, 0);
+            if self.random.percent(50) {
+                self.migrate(sketch, 0, process, 0);
+            } else {
+                self.plan(sketch, Call::Exit { process });
+            }
         }
         self.set(sketch, group, "memory.max", 40_960);
         self.set(sketch, group, "pids.max", 2);
@@ -64,8 +77,8 @@ impl Generator {
         self.plan(sketch, Call::HandOver { user: 0, group, owner });
     }
 
-    /// A process that is gone, or never was; every call on its number, with the arguments that
-    /// would do and with others; then it is there again, as another user's.
+    /// A process that has ended, that was collected too, or that never was; every call on its number,
+    /// with the arguments that would do and with others; then it is there again, as another user's.
     pub(super) fn departed(&mut self, sketch: &mut Model) {
         let group = self.live_group(sketch);
         let owner = sketch.group(group).map_or(0, |kept| kept.owner);
@@ -73,7 +86,14 @@ impl Generator {
         self.plan(sketch, Call::Charge { process, pages: 1 });
         self.plan(sketch, Call::Exit { process });
         let Some(never) = self.free_process(sketch) else { return };
-        let absent = if self.random.percent(70) { process } else { never };
+        let absent = match self.random.below(10) {
+            0..4 => process,
+            4..7 => {
+                self.plan(sketch, Call::Collect { process });
+                process
+            }
+            _ => never,
+        };
         let live = self.random.one_of(sketch.live_processes()).unwrap_or(0);
         let free = self.free_process(sketch).unwrap_or(0);
         for new in [free, live, absent, 0, LAST_PROCESS + 1] {
@@ -92,12 +112,14 @@ impl Generator {
             self.migrate(sketch, user, absent, 0);
         }
         let user = self.user();
-        match self.random.one_of(sketch.live_processes()) {
-            Some(parent) if self.random.percent(50) => {
-                self.plan(sketch, Call::Fork { parent, process });
-            }
-            _ => self.plan(sketch, Call::Admit { process, user }),
-        }
+        let parent = self.random.one_of(sketch.live_processes());
+        let again = match parent.filter(|_| self.random.percent(50)) {
+            Some(parent) => Call::Fork { parent, process },
+            None => Call::Admit { process, user },
+        };
+        self.plan(sketch, again.clone());
+        self.plan(sketch, Call::Collect { process });
+        self.plan(sketch, again);
     }
 }
 
@@ -124,6 +146,8 @@ fn calls_on(group: u64, process: u64, live: u64) -> Vec<Call> {
         Call::WriteSetting { user, group, file: line("cpu.max"), line: line("max x") },
         Call::WriteSetting { user, group, file: line("cpu.max"), line: line("max 999") },
         Call::WriteSetting { user, group, file: line("io.max"), line: line("8:16 rbps=0") },
+        Call::WriteSetting { user, group, file: line("io.max"), line: line("8:16 x") },
+        Call::WriteSetting { user, group, file: line("io.max"), line: line("8:16 rbps=1 rbps=2") },
         Call::WriteSetting { user, group, file: line("memory"), line: line("1") },
         Call::Read { group, file: line("memory"), room: 0 },
         Call::Release { group, pages: 1 },

@@ -9,7 +9,7 @@ use crate::compare::{FILES, ROOM};
 use crate::model::{CONTROLLERS, DEEPEST, LAST_GROUP, LAST_PROCESS, Model};
 
 /// How many calls of a kind a scene makes.
-const CALLS: usize = 18;
+const CALLS: usize = 24;
 
 impl Generator {
     pub(super) fn cross_make(&mut self, sketch: &mut Model) {
@@ -18,8 +18,10 @@ impl Generator {
         for _ in 0..CALLS {
             let parent = self.any_group(sketch);
             let free = self.free_group(sketch);
-            let group = match free {
-                Some(group) if self.random.percent(40) => group,
+            let removed = self.random.one_of(sketch.removed_groups());
+            let group = match (free, removed) {
+                (_, Some(group)) if self.random.percent(25) => group,
+                (Some(group), _) if self.random.percent(40) => group,
                 _ => self.any_group(sketch),
             };
             let user = self.any_user(sketch, parent);
@@ -98,9 +100,10 @@ impl Generator {
         for _ in 0..CALLS {
             let process = self.any_process(sketch);
             let user = self.user();
-            let call = match self.random.below(8) {
+            let call = match self.random.below(9) {
                 0 => Call::Admit { process, user },
                 1 => Call::Exit { process },
+                2 => Call::Collect { process },
                 _ => Call::Fork { parent: self.any_process(sketch), process },
             };
             self.plan(sketch, call);
@@ -148,8 +151,8 @@ impl Generator {
 
 // Arguments.
 impl Generator {
-    /// Above the last, not live, the root, at the deepest level, with a set, with a child that has
-    /// one, with a process, with a child, or any that is live.
+    /// Above the last, not live, removed but on a zombie's path, the root, at the deepest level, with a
+    /// set, with a child that has one, with a process, with a child, or any that is live.
     pub(super) fn any_group(&mut self, sketch: &Model) -> u64 {
         let below_root = sketch.live_groups().filter(|&group| group != 0);
         let of_kind = match self.random.below(10) {
@@ -157,6 +160,7 @@ impl Generator {
                 let (next, wide) = (LAST_GROUP + 1, 1 << 32);
                 Some(self.random.pick(&[next, next, next + 1, 512, 1024, wide, 1 << 63, u64::MAX]))
             }
+            1 if self.random.percent(40) => self.random.one_of(sketch.removed_groups()),
             1 => self.free_group(sketch),
             2 => Some(0),
             3 => self.random.one_of(below_root.filter(|&group| sketch.depth(group) == DEEPEST)),
@@ -169,7 +173,7 @@ impl Generator {
         of_kind.unwrap_or_else(|| self.live_group(sketch))
     }
 
-    /// Out of range, not live, below the root, or any that is live.
+    /// Out of range, free, a zombie, below the root, or any that is live.
     pub(super) fn any_process(&mut self, sketch: &Model) -> u64 {
         let place = |process: u64| sketch.process(process).map_or(0, |kept| kept.group);
         let of_kind = match self.random.below(7) {
@@ -185,6 +189,7 @@ impl Generator {
                 (1 << 32) + 1,
                 u64::MAX,
             ])),
+            1 if self.random.percent(60) => self.random.one_of(sketch.zombies()),
             1 => self.free_process(sketch),
             2..5 => {
                 self.random.one_of(sketch.live_processes().filter(|&process| place(process) != 0))

@@ -21,7 +21,7 @@ impl Generator {
         for up in sketch.chain(group) {
             self.lift(sketch, up);
         }
-        for _ in 0..self.random.pick(&[5, 18, 18, 34]) {
+        for _ in 0..self.random.pick(&[18, 18, 34]) {
             let room = sketch.machine().saturating_sub(sketch.usage(0));
             if room < MOST {
                 break;
@@ -62,7 +62,7 @@ impl Generator {
     /// The largest releases while they last, or a few; then what is left, and one page more.
     fn disperse(&mut self, sketch: &mut Model, group: u64) {
         let own = |sketch: &Model| sketch.group(group).map_or(0, |kept| kept.own_pages);
-        for _ in 0..self.random.pick(&[2, 8, 24]) {
+        for _ in 0..self.random.pick(&[4, 8, 24]) {
             if own(sketch) < MOST {
                 break;
             }

@@ -2,17 +2,18 @@
 
 use super::super::Generator;
 use crate::call::Call;
-use crate::model::Model;
+use crate::model::{LAST_PROCESS, Model};
 
 impl Generator {
-    /// So many processes, in one group or in two below it, under a pids limit about there. Moves
-    /// fill up what forks may not. Then the whole cgroup.procs, into a buffer that it fills and one
-    /// byte less; and limits about that many with one process gone and back.
+    /// So many processes, in one group or in two below it, but all there can be in one, under a pids
+    /// limit about there. Moves fill up what forks may not. Then the whole cgroup.procs, into a buffer
+    /// that it fills and one byte less; and limits about that many with one process gone, collected and
+    /// back.
     pub(super) fn house(&mut self, sketch: &mut Model, most: u64) {
         let Some(house) = self.child(sketch, 0, 0) else { return };
         self.control(sketch, 0, "+pids");
         let mut rooms = vec![house];
-        if self.random.percent(25) {
+        if most < LAST_PROCESS && self.random.percent(25) {
             rooms = (0..2).filter_map(|_| self.child(sketch, 0, house)).collect();
         }
         let limit = self.random.pick(&[most - 2, most - 1, most - 1, most, most + 1]);
@@ -41,6 +42,8 @@ impl Generator {
             }
             self.plan(sketch, Call::Fork { parent: parents[0], process });
             self.plan(sketch, Call::Exit { process });
+            self.plan(sketch, Call::Fork { parent: parents[0], process });
+            self.plan(sketch, Call::Collect { process });
             self.plan(sketch, Call::Fork { parent: parents[0], process });
             if sketch.process(process).is_none() {
                 self.plan(sketch, Call::Admit { process, user });

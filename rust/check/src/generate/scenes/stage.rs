@@ -6,10 +6,11 @@ use crate::call::Call;
 use crate::model::{DEEPEST, Model, PIDS};
 
 impl Generator {
-    /// Makes what is not there yet: a user's group that has a controller in its set, in a child's and
-    /// in a grandchild's; beside the child a group with another user's process, which finds no room
-    /// above for a page or a process.
+    /// Makes what is not there yet: a zombie whose group was removed; a user's group that has a
+    /// controller in its set, in a child's and in a grandchild's; beside the child a group with another
+    /// user's process, which finds no room above for a page or a process.
     pub(super) fn furnish(&mut self, sketch: &mut Model) {
+        self.bury_one(sketch);
         if stacked(sketch).next().is_some() && is_crowded(sketch) {
             return;
         }
@@ -31,6 +32,17 @@ impl Generator {
         let population = sketch.population(top);
         self.set(sketch, top, "pids.max", population);
         self.set(sketch, top, "memory.max", 0);
+    }
+
+    fn bury_one(&mut self, sketch: &mut Model) {
+        if sketch.removed_groups().next().is_some() {
+            return;
+        }
+        let (above, user) = (self.live_group(sketch), self.user());
+        let Some(group) = self.child(sketch, 0, above) else { return };
+        let Some(process) = self.settler(sketch, user, group) else { return };
+        self.plan(sketch, Call::Exit { process });
+        self.plan(sketch, Call::Remove { user: 0, group });
     }
 
     /// A group at the deepest level, under one of those that come nearest to it.
