@@ -137,14 +137,14 @@ module _ (v w : ℕ → ℕ) (a : SpareRow v) (b : SpareRow w) (sums : (c : Coun
       ▹ ap (λ (g : Group). g .core .parent) e
       ▹ sums Zombies
       ▹ sums Members
-      ▹ sums Children
       ▹ sums (Of Processes)
       ▹ sums (Of Pages)
       ▹ none
 
   places-same : Below (λ k. v k ≡ w k) used
   places-same =
-      remnant-one _ _ r
+      sums Children
+      ▹ remnant-one _ _ r
       ▹ and-slot (slotField 3) (slot 3) (and-slot (slotField 2) (slot 2) (and-slot (slotField 1) (slot 1) (and-slot (slotField 0) (slot 0) words-before)))
 
   row-same : (k : ℕ) → k < rowWords → v k ≡ w k
