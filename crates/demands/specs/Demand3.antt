@@ -27,8 +27,8 @@ use Rattle.demands.specs.Texts.{FindsText}
 
 -- The words xs and the book b before the run, its calls with the numbers answered, the words ys after it. They keep the invariant and
 -- stand alike with the book, and a read of memory.current or pids.current delivers the book's figure. Every page limit and its mark are of
--- the last write, or of the start. Every accepted charge or birth left no group on its way up over its limit. Nothing is lost, and who
--- ended was collected or is a zombie. io.max has what accepted writes gave, and shows it.
+-- the last write, or of the start. Every accepted charge or birth left no group on its way up over its limit. Nothing is lost, and as
+-- many ended as were collected or are zombies. io.max has what accepted writes gave, and shows it.
 pub record Kept3 (xs : List ℕ) (b : Book) (es : List Entry) (ys : List ℕ) : Type 0 where
   pub kept : Kept ys
   pub alike : Alike (view ys) (fed b es)

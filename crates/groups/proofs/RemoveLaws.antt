@@ -1,6 +1,6 @@
 -- What an accepted remove finds, that the pages it passes on fit a word, and that its stores give the definitions' tree:
--- the pages stay inside every group above, so that no other group's amount changes, and its parent has one child less.
--- Assumes nothing.
+-- the pages stay inside every group above, so that no other group's amount changes, its parent has one child less, and what
+-- zombies' paths need is left of the group. Assumes nothing.
 use Prim.Native.Nat.{ℕ, _+_, _^_, _≤_, _<_}
 use native.Mathlib.Omega.{arith}
 use mathlib.Core.Bool.{true, not}
@@ -113,11 +113,11 @@ module _ (xs : List ℕ) (k : Kept xs) (user g : ℕ) (v : verdict (view xs) (re
       ∙ amount-after-remove s (places (view xs)) (depths (view xs)) (k .formed .sound) (k .formed .placed) g
       (here .live) (here .nonroot) (here .childless) (here .empty) r h ne
 
-  -- nothing is counted in a number that is not live, but zombies, who stay where they were
   formed-after : WellFormed (removed (view xs) g)
   unfolding effect
   formed-after = well-formed-effect (view xs) (remove user g) (k .formed) (passed (view xs) (remove user g) v)
 
+  -- nothing is counted in a number that is not live, but zombies, who stay where they were
   count-removed : (c : Counter) → c ≢ Zombies → countIn (removed (view xs) g) c g ≡ 0
   count-removed c ne =
       count-dead (cores (removed (view xs) g)) (places (view xs)) (depths (removed (view xs) g)) (formed-after .sound) (formed-after .placed)
@@ -155,7 +155,7 @@ module _ (xs : List ℕ) (k : Kept xs) (user g : ℕ) (v : verdict (view xs) (re
   counted us d Members a ne = d .other Members members-apart a ∙ k .sums Members a
   counted us d Zombies a ne = d .other Zombies zombies-apart a ∙ k .sums Zombies a ∙ sym (zombies-same a)
 
-  -- The words after the row was cleared, where n zombies are inside; then what is left of the group.
+  -- The words after the row was cleared, where x zombies are inside; then what is left of the group.
   module _ (us zs ys : List ℕ) (p m n : ℕ) (a : p ≡ parents (view xs) g) (b : m ≡ view xs .group p .core .own) (d : n ≡ view xs .group g .core .own)
       (j : AdjustedAt xs us Children p 0 1) (w : Wrote us zs (ownSet (view us) p (m + n))) (q : Cleared zs ys (groupGone (view zs) g) g)
       (x : ℕ) (e : x ≡ countIn (view xs) Zombies g) where

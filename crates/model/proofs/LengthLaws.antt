@@ -11,7 +11,7 @@ use mathlib.Core.Path.{_≡_, refl, ap, ap₂, sym, _∙_}
 use lib.ListN.{length, length-append}
 use borrow.Author.Tests.{eq-eqb, ne-eqb, le-leb, lt-leb}
 use Rattle.model.specs.Functions.{mapped, orElse}
-use Rattle.model.specs.Sizes.{processes, deepest, longestListing, longestMembership}
+use Rattle.model.specs.Sizes.{processes, deepest, longestListing, longestLiveMembership, longestMembership}
 use Rattle.model.specs.Checks.{bar, need, first, answerNumber}
 use Rattle.model.specs.Tree.{Tree, Place, nowhere, at, Process, Past, isLive, lives, places}
 use Rattle.model.specs.Zombies.{isZombie, pathParents, processTaken, lastGroup}
@@ -31,7 +31,7 @@ use Rattle.model.proofs.FunctionLaws.{split, whether, clash, upd-same, 
 use Rattle.model.proofs.DecimalLaws.{length-decimal, length-decimal-least}
 use Rattle.model.proofs.NameLaws.{fileNamed-fileName}
 use Rattle.model.proofs.ZombieLaws.{last-there}
-use Rattle.model.proofs.Steps.{by-verdict, step-accepted, step-refused, well-formed-run}
+use Rattle.model.proofs.Steps.{process-lives, by-verdict, step-accepted, step-refused, well-formed-run}
 use Rattle.model.proofs.Books.{reply-number}
 use Rattle.model.proofs.Reached.{well-formed-fresh}
 
@@ -232,17 +232,35 @@ length-path {up = up} s (suc n) g l =
 length-mark : (t : Tree) (g : ℕ) → length (deletedMark t g) ≤ 10
 length-mark t g = split (lives t g) (λ l. rw l (omega arith)) (λ n. rw n (omega arith))
 
-length-membership : (t : Tree) → WellFormed t → (p : ℕ) → processTaken t p ≡ true → length (membershipLine t p) ≤ longestMembership
-unfolding membershipLine
-length-membership t w p k =
+length-text : (t : Tree) → WellFormed t → (p : ℕ) → processTaken t p ≡ true → length (pathText t (lastGroup t p)) ≤ 67
+length-text t w p k =
     let g : ℕ = lastGroup t p in
-    let text : List ℕ = pathText t g ++ deletedMark t g in
-    let short : length (pathText t g) ≤ 67 =
     whether g 0
     (λ e. rw (eq-eqb g 0 e) (omega arith))
     (λ ne. rw (ne-eqb g 0 ne)
-    (omega (arith, length-append (bytes "0::") (path (pathParents t) deepest g), length-path (w .past .paths) deepest g (last-there t w p k)))) in
-    omega (arith, length-append text (newline ∷ []), length-append (pathText t g) (deletedMark t g), length-mark t g)
+    (omega (arith, length-append (bytes "0::") (path (pathParents t) deepest g), length-path (w .past .paths) deepest g (last-there t w p k))))
+
+length-with : (t : Tree) → WellFormed t → (p n : ℕ) → processTaken t p ≡ true → length (deletedMark t (lastGroup t p)) ≤ n
+    → length (membershipLine t p) ≤ 68 + n
+unfolding membershipLine
+length-with t w p n k m =
+    let g : ℕ = lastGroup t p in
+    omega (
+      arith,
+      length-append (pathText t g ++ deletedMark t g) (newline ∷ []),
+      length-append (pathText t g) (deletedMark t g),
+      length-text t w p k,
+      m,
+    )
+
+length-membership : (t : Tree) → WellFormed t → (p : ℕ) → processTaken t p ≡ true → length (membershipLine t p) ≤ longestMembership
+length-membership t w p k = length-with t w p 10 k (length-mark t (lastGroup t p))
+
+-- of a live process, whose group is live
+length-live : (t : Tree) → WellFormed t → (p : ℕ) → isLive (places t p) ≡ true → length (membershipLine t p) ≤ longestLiveMembership
+length-live t w p l =
+    let home : lives t (lastGroup t p) ≡ true = rw l (process-lives t w p l) in
+    length-with t w p 0 (rw l) (rw home (omega arith))
 
 -- ---- a text that fits is not refused for room
 
@@ -270,6 +288,7 @@ lengths t w =
           ap (λ x. orElse [] (mapped (contents (factsOf t) g) x)) (fileNamed-fileName Procs) in
           λ z. read-fits _ _ _ _ (le-leb _ (length buffer) (omega (arith, h, short g, ap length e))) (sym (reply-number t (read g (fileName Procs) buffer)) ∙ z);
       line = length-membership t w;
+      liveLine = length-live t w;
       lineFits = λ p buffer h z.
           line-fits _ _ (λ l. le-leb _ (length buffer) (omega (arith, h, length-membership t w p l))) (sym (reply-number t (membership p buffer)) ∙ z);
     }

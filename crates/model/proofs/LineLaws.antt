@@ -23,9 +23,9 @@ use Rattle.model.specs.ZombieRules.{Removes, Collects, LineKept, LineSta
 use Rattle.model.specs.declared.Answer.the-variants.{Done}
 use Rattle.model.proofs.FunctionLaws.{split, whether, clash, or-false, or-right, upd-same, upd-other, upd-keeps, member-here, member-there}
 use Rattle.model.proofs.CheckLaws.{pass-first, answer-zero}
-use Rattle.model.proofs.ChainLaws.{climb-next, inside-self, inside-live, inside-same}
+use Rattle.model.proofs.ChainLaws.{climb-next, inside-self, inside-same}
 use Rattle.model.proofs.AmountLaws.{place-live}
-use Rattle.model.proofs.ZombieLaws.{path-inside, or-live, path-has}
+use Rattle.model.proofs.ZombieLaws.{path-inside, path-has}
 use Rattle.model.proofs.Remembering.{no-place}
 use Rattle.model.proofs.ZombieCounts.{parent-same}
 use Rattle.model.proofs.Preservation.{part-after-remove}

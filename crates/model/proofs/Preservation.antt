@@ -1,5 +1,5 @@
 -- A well-formed tree stays well formed under each kind of change that a call makes: a group changed in place, a process put
--- somewhere, a group made, a group removed, a control set written. Assumes nothing.
+-- somewhere, what is kept of the dead changed, a group made, a group removed, a control set written. Assumes nothing.
 use Prim.Native.Nat.{ℕ, suc, _+_, _≤_, _<_}
 use native.Mathlib.Omega.{arith}
 use mathlib.Core.Bool.{Bool, true, false}

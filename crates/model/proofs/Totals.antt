@@ -1,5 +1,5 @@
--- Nothing is lost: what the root holds changes by what accepted calls bring and take, and by nothing else; and who ended was collected
--- or is a zombie. By the eight changes, then over every list. Assumes nothing.
+-- Nothing is lost: what the root holds changes by what accepted calls bring and take, and by nothing else; and as many ended
+-- as were collected or are zombies. By the eight changes, then over every list. Assumes nothing.
 use Prim.Native.Nat.{ℕ, _+_, _-_, _≤_, _<_}
 use native.Mathlib.Omega.{arith}
 use mathlib.Core.Bool.{true, false}

@@ -1,14 +1,14 @@
 -- How many zombies ended inside a group: not 0 exactly on a zombie's path, and the same along other parents that are the same on every
 -- path, as after a group is made or removed and after a zombie is collected. Assumes nothing.
-use Prim.Native.Nat.{ℕ, suc, _+_, _<_}
+use Prim.Native.Nat.{ℕ, _+_, _<_}
 use native.Mathlib.Omega.{arith}
 use mathlib.Core.Bool.{true, false, not}
-use mathlib.Core.Logic.{_≢_, _⊎_, inl, inr}
+use mathlib.Core.Logic.{_⊎_, inl, inr}
 use mathlib.Core.Path.{_≡_, refl, ap, sym, _∙_}
 use lib.Dec.{eqb}
 use Rattle.model.specs.Functions.{pick, upd, weigh}
 use Rattle.model.specs.Sizes.{processes}
-use Rattle.model.specs.Tree.{Tree, Group, Place, nowhere, at, noGroup, remnant, newGroup, groupOf, lives, parents, depths, zombies, remains, atGroup, withPast, Remnant}
+use Rattle.model.specs.Tree.{Tree, Group, Place, nowhere, at, noGroup, remnant, groupOf, lives, parents, depths, zombies, remains, atGroup, withPast, Remnant}
 use Rattle.model.specs.Hierarchy.{inside, held, headcount, standing}
 use Rattle.model.specs.Zombies.{isZombie, remnantParent, pathParents, runsThrough, onPathIn, onPath, groupTaken}
 use Rattle.model.specs.Effects.{keptIf, charged, removed, pastCollect}

@@ -223,7 +223,7 @@ pub record Demand3 (t : Tree) (b : Book) (cs : List Call) : Type 0 where
       → Accepted (run t xs) c
       → NoneOver r (bookAfter t b (xs ++ (c ∷ []))) (groupOf (bookAfter t b (xs ++ (c ∷ [])) .place p))
   pub balanced : Balanced t (log t cs) (run t cs)
-  -- order 5: who ended was collected or is a zombie
+  -- order 5: as many ended as were collected or are zombies
   pub ended : EndedOnce t (log t cs) (run t cs)
   -- order 1: io.max keeps what the accepted writes gave, and nothing else, and readers see it
   pub devices : Accounted (run t cs) (accountAfter t b (accountOf t) cs)

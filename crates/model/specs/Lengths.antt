@@ -6,8 +6,8 @@ use mathlib.Core.List.{List, [], _∷_}
 use mathlib.Core.Logic.{_≢_}
 use mathlib.Core.Path.{_≡_}
 use lib.ListN.{length}
-use Rattle.model.specs.Sizes.{processes, longestListing, longestMembership}
-use Rattle.model.specs.Tree.{Tree}
+use Rattle.model.specs.Sizes.{processes, longestListing, longestLiveMembership, longestMembership}
+use Rattle.model.specs.Tree.{Tree, isLive, places}
 use Rattle.model.specs.Hierarchy.{factsOf}
 use Rattle.model.specs.Zombies.{processTaken}
 use Rattle.model.specs.Names.{fileName}
@@ -22,6 +22,7 @@ pub record Lengths (t : Tree) : Type 0 where
   pub listing : (g : ℕ) → length (contents (factsOf t) g Procs) ≤ longestListing
   pub listingFits : (g : ℕ) (buffer : List ℕ) → longestListing ≤ length buffer → reply t (read g (fileName Procs) buffer) .number ≢ 28
   pub line : (p : ℕ) → processTaken t p ≡ true → length (membershipLine t p) ≤ longestMembership
+  pub liveLine : (p : ℕ) → isLive (places t p) ≡ true → length (membershipLine t p) ≤ longestLiveMembership
   pub lineFits : (p : ℕ) (buffer : List ℕ) → longestMembership ≤ length buffer → reply t (membership p buffer) .number ≢ 28
 
 -- n processes admitted, from p on

@@ -1,4 +1,4 @@
--- The sizes of document 01, "What the host keeps" and "Lines", and of orders 1 and 4, each named once. Assumes nothing.
+-- The sizes of document 01, "What the host keeps" and "Lines", and of orders 1, 4 and 5, each named once. Assumes nothing.
 use Prim.Native.Nat.{ℕ}
 
 -- order 4: group numbers are below this: "Groups go to 0 to 255"
@@ -17,7 +17,11 @@ deepest = 16
 abbrev pub longestListing : ℕ
 longestListing = 4013
 
--- and no membership line is longer: "0::", for each level a "/" and a number, order 5's " (deleted)", and a newline
+-- and no membership line of a live process is longer: "0::", for each level a "/" and a number, and a newline
+abbrev pub longestLiveMembership : ℕ
+longestLiveMembership = 68
+
+-- nor any other: with order 5's " (deleted)"
 abbrev pub longestMembership : ℕ
 longestMembership = 78
 

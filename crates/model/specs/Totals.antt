@@ -72,7 +72,7 @@ Balanced t es u =
     (r : Resource)
     → amount (cores t) (places t) r 0 + total (brought r) es ≡ amount (cores u) (places u) r 0 + total (taken r) es
 
--- Order 5: who ended was collected or is a zombie. An exit is what takes a live process out.
+-- Order 5: as many ended as were collected or are zombies. An exit is what takes a live process out.
 unfoldable pub zombieCount : Tree → ℕ
 zombieCount t = sum processes (λ p. headcount (zombies t p))
 

@@ -49,8 +49,8 @@ namedInCalls =
     ++ allGet 3 (procs 7 1 "6" ∷ procs 7 2 "6" ∷ procs 0 2 " 006\n" ∷ [])
     ++ belongs 5 "0::/1/2\n" ∷ belongs 6 "0::/\n" ∷ [])
 
--- "Its number is taken: admit and fork answer 17", before 11 and after 22 and 3, until it is collected. Who has the number then is the
--- new process's own user's, or its parent's, and not the zombie's.
+-- "Its number is taken: admit and fork answer 17", before 11 and after 22 and 3, until it is collected. The process that has the
+-- number then is of its own user, or of its parent's, and not of the zombie's.
 abbrev pub numberTaken : Evening
 numberTaken =
     evening 0
@@ -110,7 +110,7 @@ removedNumber =
     ++ belongs 5 "0::/1/2 (deleted)\n" ∷ [])
 
 -- The same of a removed group further up. Both numbers are taken, and no other; after the collect both can be made again, elsewhere too,
--- and their line says nothing of it.
+-- and the line of a process there has no mark.
 abbrev pub removedChain : Evening
 removedChain =
     evening 0

@@ -9,26 +9,25 @@ use mathlib.Core.Path.{_≡_, refl, ap, sym, _∙_, fun-ext, subst}
 use lib.Dec.{eqb}
 use lib.ListN.{length}
 use borrow.Author.Tests.{eq-eqb, ne-eqb}
-use Rattle.model.specs.Functions.{pick, upd, weigh}
+use Rattle.model.specs.Functions.{pick, upd}
 use Rattle.model.specs.Sizes.{groups, processes}
 use Rattle.model.specs.Checks.{Pass}
-use Rattle.model.specs.Tree.{Tree, Place, Process, Remnant, noRemnant, nowhere, at, noProcess, atProcess, withPast, groupOf, isLive, lives, parents, depths, places, zombies, remains}
-use Rattle.model.specs.Hierarchy.{inside, standing, factsOf}
-use Rattle.model.specs.Zombies.{isZombie, isRemoved, remnantParent, remnantDepth, there, orRemnant, pathParents, pathDepths, onPathIn}
+use Rattle.model.specs.Tree.{Tree, Place, Remnant, noRemnant, nowhere, at, noProcess, withPast, groupOf, isLive, lives, parents, depths, places, zombies, remains}
+use Rattle.model.specs.Hierarchy.{inside, standing}
+use Rattle.model.specs.Zombies.{isZombie, isRemoved, remnantParent, there, pathParents, pathDepths, onPathIn}
 use Rattle.model.specs.Calls.{collect, checks, verdict}
-use Rattle.model.specs.Effects.{keptIf, pastCollect, effect}
+use Rattle.model.specs.Effects.{keptIf, effect}
 use Rattle.model.specs.WellFormed.{Sound, WellFormed}
 use Rattle.model.specs.declared.Resource.the-variants.{Pages, Processes}
 use Rattle.model.specs.declared.Answer.the-variants.{Done}
 use Rattle.model.proofs.FunctionLaws.{split, whether, clash, upd-same, upd-other, upd-id, weigh-yes, weigh-no}
 use Rattle.model.proofs.ChainLaws.{inside-self, inside-live, inside-up, inside-cases, inside-trans, inside-level}
-use Rattle.model.proofs.AmountLaws.{place-free}
 use Rattle.model.proofs.ProcessLaws.{zombie-range}
-use Rattle.model.proofs.ZombieLaws.{zombie-place, not-removed, there-cases, or-live, or-dead, path-some, path-has, path-inside}
+use Rattle.model.proofs.ZombieLaws.{zombie-place, not-removed, or-dead, path-some, path-has, path-inside}
 use Rattle.model.proofs.ZombieCounts.{path-counted, zombies-without, zombies-after-collect}
 use Rattle.model.proofs.Steps.{passed}
 use Rattle.tree.specs.Layout.{treeWords, view, sumIn, Spare}
-use Rattle.tree.specs.Changes.{ProcessRow, Wrote, AdjustedAt, Adjusted, remnantSet, processGone, GroupRow}
+use Rattle.tree.specs.Changes.{Wrote, AdjustedAt, Adjusted, remnantSet, processGone}
 use Rattle.tree.specs.Counters.{Countable, Adjustable}
 use Rattle.tree.specs.Kept.{countIn, Settled, Kept}
 use Rattle.tree.specs.Calling.{Calling}

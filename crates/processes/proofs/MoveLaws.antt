@@ -18,7 +18,7 @@ use Rattle.model.proofs.ChainLaws.{inside-trans}
 use Rattle.model.proofs.CommonAncestorLaws.{ancestor-of-left, ancestor-of-right}
 use Rattle.model.proofs.AmountLaws.{place-live}
 use Rattle.tree.specs.Layout.{view, sumIn}
-use Rattle.tree.specs.Changes.{LivingRow, Wrote, AdjustedAt}
+use Rattle.tree.specs.Changes.{UnendedRow, Wrote, AdjustedAt}
 use Rattle.tree.specs.Counters.{bottom, ChainOf, Countable, Adjustable}
 use Rattle.tree.specs.declared.chain.Chain.{Chain}
 use Rattle.tree.specs.declared.sum.Counter.the-variants.{Of, Members}
@@ -158,11 +158,11 @@ module _ {xs : List ℕ} {p : ℕ} {source target : Chain} {m : ℕ} (h : Migrat
 
         module _ (vs : List ℕ) (j : AdjustedAt us vs Members (bottom target) 1 0) where
           -- number and group have a row still
-          pub move-rows : LivingRow vs p × (bottom target < groups)
+          pub move-rows : UnendedRow vs p × (bottom target < groups)
           move-rows = (
             record {
               row = record { long = j .long; low = standing-low xs p (h .moving .from) };
-              living =
+              unended =
                   ap (λ (t : Tree). zombies t p) (j .tree ∙ i .tree ∙ e .tree ∙ d .tree)
                   ∙ h .moving .to .kept .formed .past .process p (h .moving .from .live);
             },

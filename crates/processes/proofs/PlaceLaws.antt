@@ -26,7 +26,7 @@ use Rattle.model.proofs.AmountLaws.{place-live, place-free, standing-change, po
 use Rattle.model.proofs.ZombieLaws.{untaken-process, path-inside}
 use Rattle.model.proofs.ProcessLaws.{process-range}
 use Rattle.tree.specs.Layout.{treeWords, view, sumIn, Spare}
-use Rattle.tree.specs.Changes.{ProcessRow, LivingRow, Wrote, AdjustedAt, Adjusted, endedSet, processEnded}
+use Rattle.tree.specs.Changes.{ProcessRow, UnendedRow, Wrote, AdjustedAt, Adjusted, endedSet, processEnded}
 use Rattle.tree.specs.Counters.{Countable, Adjustable}
 use Rattle.tree.specs.Kept.{members, countIn, Settled, Kept}
 use Rattle.tree.specs.Calling.{Applied}
@@ -223,11 +223,11 @@ module _ (xs : List ℕ) (p g : ℕ) (h : Vacant xs p g) where
   was-free = untaken-process (view xs) p (h .free)
 
   -- number and group have a row still
-  pub enter-rows : (ys us : List ℕ) → Adjusted xs ys (Of Processes) g 1 0 → AdjustedAt ys us Members g 1 0 → LivingRow us p × (g < groups)
+  pub enter-rows : (ys us : List ℕ) → Adjusted xs ys (Of Processes) g 1 0 → AdjustedAt ys us Members g 1 0 → UnendedRow us p × (g < groups)
   enter-rows ys us d j = (
     record {
       row = record { long = j .long; low = h .low };
-      living = ap (λ (t : Tree). zombies t p) (j .tree ∙ d .tree) ∙ was-free .1;
+      unended = ap (λ (t : Tree). zombies t p) (j .tree ∙ d .tree) ∙ was-free .1;
     },
     kept-low (h .home),
   )

@@ -1,8 +1,8 @@
 -- What the counters count, after each kind of change: amounts by the laws of `model`; live children, which go by parents and by who is
--- live; and members, which go by places. What the last two say of a group. Assumes nothing.
-use Prim.Native.Nat.{ℕ, zero, suc, _+_, _≤_, _<_}
+-- live; members, which go by places; and zombies, by what is kept of the dead. What these three say of a group. Assumes nothing.
+use Prim.Native.Nat.{ℕ, _+_, _≤_, _<_}
 use native.Mathlib.Omega.{arith}
-use mathlib.Core.Bool.{Bool, true, false, not, _||_, _&&_}
+use mathlib.Core.Bool.{true, false, not, _||_, _&&_}
 use mathlib.Core.Logic.{_≢_}
 use mathlib.Core.Path.{_≡_, refl, ap, ap₂, sym, _∙_, fun-ext}
 use lib.Dec.{eqb}

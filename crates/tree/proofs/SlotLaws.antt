@@ -14,7 +14,7 @@ use Rattle.model.proofs.FunctionLaws.{split, upd-same, upd-other}
 use Rattle.devices.specs.Slots.{tableOf, Packed, InOrder, rows}
 use Rattle.devices.specs.declared.slot.Slot.{Slot}
 use Rattle.devices.specs.declared.table.Slots.{Slots}
-use Rattle.tree.specs.Layout.{slotsEnd, front, rowWords, firstWord, firstSlot, slotWords, slotField, used, word, withWord, slotIn, slotsIn, groupRow, view}
+use Rattle.tree.specs.Layout.{slotsEnd, front, rowWords, firstWord, firstSlot, slotWords, slotField, word, withWord, slotIn, slotsIn, groupRow, view}
 use Rattle.tree.specs.Changes.{GroupRow, SlotPut, Slotted, Wrote, ioSet}
 use Rattle.tree.specs.Kept.{KeptAt}
 use Rattle.tree.proofs.RowLaws.{RowPut, row-start, also, group-ext, wrote-slots}

@@ -2,8 +2,8 @@
 ghost use mathlib.Core.Path.{_≡_};
 ghost use Prim.Native.Nat.{_<_};
 ghost use Rattle.model.specs.Sizes.{groups};
-ghost use Rattle.model.specs.Tree.{noRemnant, remnant, remains, lives, depths};
-ghost use Rattle.model.specs.Zombies.{isRemoved, remnantParent, remnantDepth};
+ghost use Rattle.model.specs.Tree.{noRemnant, remnant, remains};
+ghost use Rattle.model.specs.Zombies.{remnantParent, remnantDepth};
 ghost use Rattle.tree.specs.Layout.{view};
 ghost use Rattle.tree.specs.Changes.{GroupRow, Wrote, remnantSet};
 use super::layout::FRONT;
