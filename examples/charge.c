@@ -7,7 +7,7 @@ int main(void)
 	uint64_t told[2];
 	ss_fresh(tree, 1024);                                                         /* a machine of 1024 pages */
 	ss_write_subtree_control(tree, ss_u(0), ss_g(0), BYTES("+memory"));           /* user 0: limits act below the root */
-	ss_make(tree, ss_u(0), ss_g(0), ss_g(1), BYTES("tape-114"));                  /* and makes group 1 there */
+	ss_make(tree, ss_u(0), ss_g(0), ss_g(1));                                     /* and makes group 1 there */
 	ss_write_setting(tree, ss_u(0), ss_g(1), BYTES("memory.max"), BYTES("8192")); /* which gets two pages */
 	ss_admit(tree, ss_p(10), ss_u(1001));                                         /* process 10 begins, of user 1001 */
 	ss_write_procs(tree, ss_u(0), ss_g(1), BYTES("10"));                          /* and is moved into group 1 */

@@ -3,9 +3,8 @@
  * next holder's cgroup and at the holder's memory. Each line shows the number that a call answered.
  *
  *     0 (1024 pages)
- *     |- 1 tape-114     claim of user 1001
- *     |  `- 3 filters   made by user 1001, process 10 (the filter)
- *     `- 2 tape-115     claim of user 1002, process 20 (the holder)
+ *     |- 1  claim of user 1001, process 10 (the filter)
+ *     `- 2  claim of user 1002, process 20 (the holder)
  *
  * Build: gcc -Iinclude examples/story.c target/staticlib/libshootspiral.a -o story
  */
@@ -39,50 +38,22 @@ static void show_usage(ss_group group)
 		printf("    cgroup %llu uses %.*s", (unsigned long long)group.number, (int)told[0], text);
 }
 
-static void show_walk(const char *what, const char *path)
-{
-	char text[SS_LONGEST_REPLY];
-	uint32_t number = ss_walk(tree, ss_g(0), BYTES(path), told);
-	ss_group group = ss_g(told[0]);
-
-	show(what, number);
-	if (number != SS_OK) {
-		printf("    names passed: %llu\n", (unsigned long long)told[1]);
-		return;
-	}
-	printf("    cgroup %llu, names passed: %llu; ", (unsigned long long)told[0], (unsigned long long)told[1]);
-	if (ss_read(tree, group, BYTES("cgroup.procs"), (uint8_t *)text, sizeof text, told) == SS_OK)
-		printf("in it process %.*s", (int)told[0], text);
-}
-
-static void show_membership(ss_process process)
-{
-	char line[SS_LONGEST_MEMBERSHIP];
-
-	if (ss_membership(tree, process, (uint8_t *)line, sizeof line, told) == SS_OK)
-		printf("    process %llu is in %.*s", (unsigned long long)process.number, (int)told[0], line);
-}
-
 int main(void)
 {
 	ss_fresh(tree, 1024);
 	ss_write_subtree_control(tree, ss_u(0), ss_g(0), BYTES("+memory +pids"));
 	for (uint32_t claim = 1; claim <= 2; claim++) {
 		const char *holder = claim == 1 ? "10" : "20";
-		const char *name = claim == 1 ? "tape-114" : "tape-115";
 
-		ss_make(tree, ss_u(0), ss_g(0), ss_g(claim), BYTES(name));
+		ss_make(tree, ss_u(0), ss_g(0), ss_g(claim));
 		ss_hand_over(tree, ss_u(0), ss_g(claim), ss_u(1000 + claim));
 		ss_admit(tree, ss_p(10 * claim), ss_u(1000 + claim));
 		ss_write_procs(tree, ss_u(0), ss_g(claim), BYTES(holder));
 	}
-	ss_make(tree, ss_u(1001), ss_g(1), ss_g(3), BYTES("filters"));
-	ss_write_procs(tree, ss_u(1001), ss_g(3), BYTES("10"));
 	show_told("the filter works within its claim", ss_charge(tree, ss_p(10), 60, told));
 
 	show("the claim runs out: no more pages", ss_write_setting(tree, ss_u(0), ss_g(1), BYTES("memory.max"), BYTES("0")));
 	show("and no more processes", ss_write_setting(tree, ss_u(0), ss_g(1), BYTES("pids.max"), BYTES("0")));
-	show_walk("who holds tape-114/filters?", "tape-114/filters");
 	show_told("the filter charges one page more", ss_charge(tree, ss_p(10), 1, told));
 	show_told("it forks", ss_fork(tree, ss_p(10), ss_p(11), told));
 	show("it moves itself into the holder's cgroup", ss_write_procs(tree, ss_u(1001), ss_g(2), BYTES("10")));
@@ -90,13 +61,10 @@ int main(void)
 	show("it raises its own limit", ss_write_setting(tree, ss_u(1001), ss_g(1), BYTES("memory.max"), BYTES("max")));
 	show("it takes the holder's memory away", ss_write_setting(tree, ss_u(1001), ss_g(2), BYTES("memory.max"), BYTES("0")));
 	show("it makes the holder's cgroup its own", ss_hand_over(tree, ss_u(1001), ss_g(2), ss_u(1001)));
-	show("it makes a cgroup below the holder's", ss_make(tree, ss_u(1001), ss_g(2), ss_g(4), BYTES("filters")));
-	show_walk("who holds tape-115/filters?", "tape-115/filters");
+	show("it makes a cgroup below the holder's", ss_make(tree, ss_u(1001), ss_g(2), ss_g(3)));
 
 	show_told("the holder saves", ss_charge(tree, ss_p(20), 500, told));
 	show_usage(ss_g(1));
 	show_usage(ss_g(2));
-	show_membership(ss_p(10));
-	show_membership(ss_p(20));
 	return 0;
 }

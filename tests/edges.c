@@ -4,30 +4,29 @@
  * words of the tree, the reply buffer, and the memory around tree, buffer and told stay as they were.
  *
  *     0  1024 pages; cpu, io, memory and pids in its set; process 20 of user 2000
- *     |- 1 tape-114   of user 1000, 2 own pages, memory.max 2 pages, pids.max 1, io.max full; process 10 of user 1000
- *     |- 2 tape-115   of user 1000, memory in its set
- *     |  `- 3 filters
- *     |- 4 tape-116   of user 1000
- *     `- 201, 202 below it, and so on down to 216 at depth 16, with process 30, each of them named a
+ *     |- 1   of user 1000, 2 own pages, memory.max 2 pages, pids.max 1, io.max full; process 10 of user 1000
+ *     |- 2   of user 1000, memory in its set
+ *     |  `- 3
+ *     |- 4   of user 1000
+ *     `- 201, 202 below it, and so on down to 216 at depth 16, with process 30
  *
  * Then the last numbers, all live: 239 below the root, memory.max 2000 pages, 240 below it, and so on
  * down to 253 at depth 15; below that 254 with all 1024 processes, and 255 with none and an own page.
- * Their names are as long as can be. Then the same when all processes have ended and all these groups are
- * removed, the deepest first.
+ * Then the same when all processes have ended and all these groups are removed, the deepest first.
  *
  * Then zombies beside the live:
  *
  *     0  1024 pages; cpu, io, memory and pids in its set; process 20 of user 2000, zombie 1
- *     |- 1 one     of user 1000, pids.max 2; process 10 of user 1000, zombie 11
- *     |- 2 two     zombies 12 and 13
- *     |- 3 three   pids.max 1; process 16 of user 1000
- *     |- 4 four    with 5 five below it, and 6 six below that; both removed, with zombie 14 in 6
- *     `- 201 to 216, as above but named a to p, all removed, with zombie 30 in 216
+ *     |- 1   of user 1000, pids.max 2; process 10 of user 1000, zombie 11
+ *     |- 2   zombies 12 and 13
+ *     |- 3   pids.max 1; process 16 of user 1000
+ *     |- 4   with 5 below it, and 6 below that; both removed, with zombie 14 in 6
+ *     `- 201 to 216, as above, all removed, with zombie 30 in 216
  *
- * Group 7, seven, and process 15 are free again there: 15 ended in 7, 7 was removed, and 15 was collected.
+ * Group 7 and process 15 are free again there: 15 ended in 7, 7 was removed, and 15 was collected.
  *
  * A row is a call, the number that the papers give it and what it tells. The rows of a call stand in the
- * order of its checks, and many break a later check too. Where a line, a name, a path or a buffer has
+ * order of its checks, and many break a later check too. Where a line, a file name or a buffer has
  * length 0 the row runs again with NULL in its place.
  */
 #include <inttypes.h>
@@ -65,16 +64,7 @@ struct bytes {
 #define DEVICE(number) number " rbps=4503599627370496 wbps=4503599627370496 riops=4503599627370496 wiops=4503599627370496\n"
 #define FOUR_DEVICES DEVICE("255:252") DEVICE("255:253") DEVICE("255:254") DEVICE("255:255")
 
-/* Names and paths of a given length, filled by make_texts: letters alone, and "aa/a/a/a" and so on. */
-#define LETTERS(length) { letters, length }
-#define STEPS(length) { steps, length }          /* of an even length */
-#define STEPS_OF_ONE(length) { steps + 1, length } /* of an odd length */
-
-static char letters[65536 + SS_MAX_NAME], steps[65536 + SS_MAX_PATH];
-
-enum call {
-	MAKE, REMOVE, HAND_OVER, PROCS, CONTROL, SETTING, ADMIT, FORK, EXIT, COLLECT, CHARGE, RELEASE, READ, MEMBERSHIP, WALK, WORD
-};
+enum call { MAKE, REMOVE, HAND_OVER, PROCS, CONTROL, SETTING, ADMIT, FORK, EXIT, COLLECT, CHARGE, RELEASE, READ, MEMBERSHIP, WORD };
 
 struct row {
 	enum call call;
@@ -84,7 +74,7 @@ struct row {
 	uint64_t first; /* the numbers, in the order of the arguments */
 	uint64_t second;
 	struct bytes file;
-	struct bytes line; /* or the name, or the path */
+	struct bytes line;
 	size_t room;
 	uint32_t number; /* from here on what must come of it */
 	struct bytes text;
@@ -92,9 +82,8 @@ struct row {
 	uint64_t told[2];
 };
 
-#define MAKE(u, parent, group, name, n) \
-	{ .call = MAKE, .shown = "ss_make " #u ", " #parent ", " #group ", " #name, .user = u, .first = parent, .second = group, \
-	  .line = name, .number = n }
+#define MAKE(u, parent, group, n) \
+	{ .call = MAKE, .shown = "ss_make " #u ", " #parent ", " #group, .user = u, .first = parent, .second = group, .number = n }
 #define REMOVE(u, group, n) \
 	{ .call = REMOVE, .shown = "ss_remove " #u ", " #group, .user = u, .first = group, .number = n }
 #define HAND_OVER(u, group, o, n) \
@@ -125,73 +114,32 @@ struct row {
 	  .tells = 1 }
 #define MEMBERSHIP(process, r, n, t) \
 	{ .call = MEMBERSHIP, .shown = "ss_membership " #process ", " #r, .first = process, .room = r, .number = n, .text = t, .tells = 1 }
-#define WALK(group, path, n, reached, passed) \
-	{ .call = WALK, .shown = "ss_walk " #group ", " #path, .first = group, .line = path, .number = n, .tells = 2, \
-	  .told = { reached, passed } }
 #define WORD(l, place, length) \
 	{ .call = WORD, .shown = "ss_first_bad_word " #l, .line = l, .tells = 2, .told = { place, length } }
 
 /* These leave the tree as it was. The few with 0 read, or ask for what already holds. */
 static const struct row same[] = {
-	/* user, parent, group, name: number */
-	MAKE(0, SS_LAST_GROUP + 1, 5, T("b"), 22),
-	MAKE(0, TWO_8 + 1, 5, T("b"), 22),
-	MAKE(0, TWO_16, 5, T("b"), 22),
-	MAKE(0, TWO_32, 5, T("b"), 22),
-	MAKE(0, MOST, 5, T("b"), 22),
-	MAKE(0, 0, SS_LAST_GROUP + 1, T("b"), 22),
-	MAKE(0, 0, TWO_8 + 5, T("b"), 22),
-	MAKE(0, 0, TWO_16 + 5, T("b"), 22),
-	MAKE(0, 0, TWO_32 + 5, T("b"), 22),
-	MAKE(0, 0, MOST, T("b"), 22),
-	MAKE(0, MOST, MOST, NO_BYTE_OF("b"), 22),
-	MAKE(NOBODY, SS_LAST_GROUP, SS_LAST_GROUP + 1, T("a"), 22),
-	MAKE(0, 0, 5, NO_BYTE_OF("b"), 22),
-	MAKE(0, 0, 5, T("."), 22),
-	MAKE(0, 0, 5, T(".."), 22),
-	MAKE(0, 0, 5, T("/"), 22),
-	MAKE(0, 0, 5, T("b/"), 22),
-	MAKE(0, 0, 5, T("/b"), 22),
-	MAKE(0, 0, 5, T("b/c"), 22),
-	MAKE(0, 0, 5, T(" "), 22),
-	MAKE(0, 0, 5, T("b "), 22),
-	MAKE(0, 0, 5, T(" b"), 22),
-	MAKE(0, 0, 5, T("\n"), 22),
-	MAKE(0, 0, 5, T("b\n"), 22),
-	MAKE(0, 0, 5, T("\0"), 22),
-	MAKE(0, 0, 5, T("b\0"), 22),
-	MAKE(0, 0, 5, T("\x1f"), 22),
-	MAKE(0, 0, 5, T("\x7f"), 22),
-	MAKE(0, 0, 5, T("\x80"), 22),
-	MAKE(0, 0, 5, T("\xa1"), 22),
-	MAKE(0, 0, 5, T("b\xff"), 22),
-	MAKE(0, 0, 5, T(ZEROS_10 ZEROS_10 ZEROS_10 "\x7f"), 22),
-	MAKE(0, 0, 5, LETTERS(32), 22),
-	MAKE(0, 0, 5, LETTERS(33), 22),
-	MAKE(0, 0, 5, LETTERS(256 + 8), 22),
-	MAKE(0, 0, 5, LETTERS(65536 + 8), 22),
-	MAKE(0, SS_LAST_GROUP, 5, NO_BYTE_OF("b"), 22),
-	MAKE(0, SS_LAST_GROUP, 5, T("b/c"), 22),
-	MAKE(0, 0, 1, T(".."), 22),
-	MAKE(NOBODY, 0, 5, LETTERS(32), 22),
-	MAKE(0, 216, 5, T(" "), 22),
-	MAKE(0, SS_LAST_GROUP, 5, T("b"), 2),
-	MAKE(NOBODY, SS_LAST_GROUP, 1, T("tape-114"), 2),
-	MAKE(0, 0, 0, T("b"), 17),
-	MAKE(0, 0, 1, T("b"), 17),
-	MAKE(0, 0, 1, T("tape-114"), 17),
-	MAKE(NOBODY, 0, 1, T("b"), 17),
-	MAKE(0, 216, 1, T("b"), 17),
-	MAKE(0, 0, 5, T("tape-114"), 17),
-	MAKE(0, 0, 5, T("tape-116"), 17),
-	MAKE(0, 0, SS_LAST_GROUP, T("a"), 17),
-	MAKE(0, 2, 5, T("filters"), 17),
-	MAKE(0, 215, 5, T("a"), 17),
-	MAKE(NOBODY, 0, 5, T("tape-115"), 17),
-	MAKE(NOBODY, 0, SS_LAST_GROUP, T("b"), 13),
-	MAKE(1000, 0, SS_LAST_GROUP, T("filters"), 13),
-	MAKE(NOBODY, 216, SS_LAST_GROUP, T("a"), 13),
-	MAKE(0, 216, SS_LAST_GROUP, T("a"), 11),
+	/* user, parent, group: number */
+	MAKE(0, SS_LAST_GROUP + 1, 5, 22),
+	MAKE(0, TWO_8 + 1, 5, 22),
+	MAKE(0, TWO_16, 5, 22),
+	MAKE(0, TWO_32, 5, 22),
+	MAKE(0, MOST, 5, 22),
+	MAKE(0, 0, SS_LAST_GROUP + 1, 22),
+	MAKE(0, 0, TWO_8 + 5, 22),
+	MAKE(0, 0, TWO_16 + 5, 22),
+	MAKE(0, 0, TWO_32 + 5, 22),
+	MAKE(0, 0, MOST, 22),
+	MAKE(NOBODY, SS_LAST_GROUP, SS_LAST_GROUP + 1, 22),
+	MAKE(0, SS_LAST_GROUP, 5, 2),
+	MAKE(NOBODY, SS_LAST_GROUP, 1, 2),
+	MAKE(0, 0, 0, 17),
+	MAKE(0, 0, 1, 17),
+	MAKE(NOBODY, 0, 1, 17),
+	MAKE(NOBODY, 0, SS_LAST_GROUP, 13),
+	MAKE(1000, 0, SS_LAST_GROUP, 13),
+	MAKE(NOBODY, 216, SS_LAST_GROUP, 13),
+	MAKE(0, 216, SS_LAST_GROUP, 11),
 
 	/* user, group: number */
 	REMOVE(0, SS_LAST_GROUP + 1, 22),
@@ -556,75 +504,9 @@ static const struct row same[] = {
 	MEMBERSHIP(20, 0, 28, T("")),
 	MEMBERSHIP(20, 4, 28, T("")),
 	MEMBERSHIP(30, 0, 28, T("")),
-	MEMBERSHIP(30, 35, 28, T("")),
+	MEMBERSHIP(30, 67, 28, T("")),
 	MEMBERSHIP(20, 5, 0, T("0::/\n")),
-	MEMBERSHIP(10, 13, 0, T("0::/tape-114\n")),
-	MEMBERSHIP(30, 36, 0, T("0::/a/a/a/a/a/a/a/a/a/a/a/a/a/a/a/a\n")),
-
-	/* group, path: number, group reached, names passed */
-	WALK(SS_LAST_GROUP + 1, T("a"), 22, NONE, 0),
-	WALK(TWO_8, T("a"), 22, NONE, 0),
-	WALK(TWO_16, T("a"), 22, NONE, 0),
-	WALK(TWO_32, T("a"), 22, NONE, 0),
-	WALK(MOST, NO_BYTE_OF("a"), 22, NONE, 0),
-	WALK(MOST, T("/"), 22, NONE, 0),
-	WALK(SS_LAST_GROUP, T("a"), 2, NONE, 0),
-	WALK(SS_LAST_GROUP, NO_BYTE_OF("a"), 2, NONE, 0),
-	WALK(SS_LAST_GROUP, T("/"), 2, NONE, 0),
-	WALK(SS_LAST_GROUP, STEPS_OF_ONE(1025), 2, NONE, 0),
-	WALK(0, STEPS_OF_ONE(1025), 22, NONE, 0),
-	WALK(0, STEPS(1026), 22, NONE, 0),
-	WALK(0, STEPS_OF_ONE(65536 + 1), 22, NONE, 0),
-	WALK(0, LETTERS(65536 + 1), 22, NONE, 0),
-	WALK(0, T("/"), 22, NONE, 0),
-	WALK(0, T("//"), 22, NONE, 0),
-	WALK(0, T("/a"), 22, NONE, 0),
-	WALK(0, T("a/"), 22, NONE, 0),
-	WALK(0, T("a//a"), 22, NONE, 0),
-	WALK(0, T("."), 22, NONE, 0),
-	WALK(0, T(".."), 22, NONE, 0),
-	WALK(0, T("a/."), 22, NONE, 0),
-	WALK(0, T("./a"), 22, NONE, 0),
-	WALK(0, T("a/../a"), 22, NONE, 0),
-	WALK(0, T("a\n"), 22, NONE, 0),
-	WALK(0, T("\n"), 22, NONE, 0),
-	WALK(0, T("a "), 22, NONE, 0),
-	WALK(0, T("a /a"), 22, NONE, 0),
-	WALK(0, T("a\0"), 22, NONE, 0),
-	WALK(0, T("\0"), 22, NONE, 0),
-	WALK(0, T("a\0/a"), 22, NONE, 0),
-	WALK(0, T("\xff"), 22, NONE, 0),
-	WALK(0, T("a/\x7f"), 22, NONE, 0),
-	WALK(0, LETTERS(32), 22, NONE, 0),
-	WALK(0, T("a/" ZEROS_10 ZEROS_10 ZEROS_10 "00"), 22, NONE, 0),
-	WALK(0, T("nowhere/"), 22, NONE, 0),
-	WALK(0, T("nowhere/a//a"), 22, NONE, 0),
-	WALK(0, STEPS(1023), 22, NONE, 0), /* it ends in "/" */
-	WALK(216, T("a/.."), 22, NONE, 0),
-	WALK(0, T("1"), 2, NONE, 0),
-	WALK(0, T("tape-11"), 2, NONE, 0),
-	WALK(0, T("tape-1144"), 2, NONE, 0),
-	WALK(0, T("Tape-114"), 2, NONE, 0),
-	WALK(0, T("filters"), 2, NONE, 0),
-	WALK(0, T("..."), 2, NONE, 0),
-	WALK(0, LETTERS(31), 2, NONE, 0),
-	WALK(0, T("tape-114/filters"), 2, NONE, 1),
-	WALK(0, T("tape-115/tape-115"), 2, NONE, 1),
-	WALK(0, T("tape-115/filters/filters"), 2, NONE, 2),
-	WALK(0, T("a/b/a"), 2, NONE, 1),
-	WALK(0, STEPS(1024), 2, NONE, 0),
-	WALK(0, STEPS_OF_ONE(1023), 2, NONE, 16),
-	WALK(0, STEPS_OF_ONE(33), 2, NONE, 16),
-	WALK(216, T("a"), 2, NONE, 0),
-	WALK(0, NO_BYTE_OF("a"), 0, 0, 0),
-	WALK(216, NO_BYTE_OF("a"), 0, 216, 0),
-	WALK(0, T("tape-116"), 0, 4, 1),
-	WALK(0, T("tape-115/filters"), 0, 3, 2),
-	WALK(2, T("filters"), 0, 3, 1),
-	WALK(0, T("a"), 0, 201, 1),
-	WALK(0, STEPS_OF_ONE(31), 0, 216, 16),
-	WALK(201, T("a/a"), 0, 203, 2),
-	WALK(215, T("a"), 0, 216, 1),
+	MEMBERSHIP(30, 68, 0, T("0::/201/202/203/204/205/206/207/208/209/210/211/212/213/214/215/216\n")),
 
 	/* line: place, length */
 	WORD(NO_BYTE_OF("x"), 0, 0),
@@ -644,20 +526,8 @@ static const struct row same[] = {
 
 /* These are accepted and must change the tree. */
 static const struct row changing[] = {
-	MAKE(0, 0, SS_LAST_GROUP, T("b"), 0),
-	MAKE(0, 215, SS_LAST_GROUP, T("aa"), 0),
-	MAKE(0, 0, 5, T("..."), 0),
-	MAKE(0, 0, 5, T(".b"), 0),
-	MAKE(0, 0, 5, T("!"), 0),
-	MAKE(0, 0, 5, T("~"), 0),
-	MAKE(0, 0, 5, T("0"), 0),
-	MAKE(0, 0, 5, T("(deleted)"), 0),
-	MAKE(0, 0, 5, T("tape-11"), 0),
-	MAKE(0, 0, 5, T("tape-1144"), 0),
-	MAKE(0, 0, 5, T("Tape-114"), 0),
-	MAKE(0, 0, 5, T("filters"), 0),
-	MAKE(0, 1, 5, T("tape-114"), 0),
-	MAKE(0, 0, 5, LETTERS(31), 0),
+	MAKE(0, 0, SS_LAST_GROUP, 0),
+	MAKE(0, 215, SS_LAST_GROUP, 0),
 	REMOVE(0, 3, 0),
 	HAND_OVER(0, 1, NOBODY, 0),
 	PROCS(0, 4, T("10\n"), 0),
@@ -687,10 +557,7 @@ static const struct row changing[] = {
 #define CROWD (SS_LAST_GROUP - 1)
 #define ABOVE (SS_LAST_GROUP - 2)
 #define LISTING { listing, 4013 }
-#define LONG(name) ZEROS_10 ZEROS_10 "00000000" name
-#define LAST_PATH \
-	LONG("239") "/" LONG("240") "/" LONG("241") "/" LONG("242") "/" LONG("243") "/" LONG("244") "/" LONG("245") "/" LONG("246") "/" \
-	LONG("247") "/" LONG("248") "/" LONG("249") "/" LONG("250") "/" LONG("251") "/" LONG("252") "/" LONG("253") "/" LONG("254")
+#define LAST_PATH "0::/239/240/241/242/243/244/245/246/247/248/249/250/251/252/253/254"
 
 /* What a zombie's membership line has after the path, once its group was removed. */
 #define DELETED " (deleted)\n"
@@ -699,11 +566,8 @@ static char listing[SS_LONGEST_REPLY + 1];
 
 /* The same two lists for that scene. */
 static const struct row last_same[] = {
-	MAKE(0, SS_LAST_GROUP, 1, T(LONG("255")), 11),
-	MAKE(0, 0, SS_LAST_GROUP, T(LONG("255")), 17),
-	MAKE(0, ABOVE, 1, T(LONG("254")), 17),
-	MAKE(0, ABOVE, 1, T(LONG("255")), 17),
-	MAKE(0, ABOVE, 1, T(LONG("254") "0"), 22),
+	MAKE(0, SS_LAST_GROUP, 1, 11),
+	MAKE(0, 0, SS_LAST_GROUP, 17),
 	REMOVE(0, CROWD, 16),
 	PROCS(0, ABOVE, T("1024"), 16),
 	CONTROL(0, CROWD, T("+cpu"), 16),
@@ -725,21 +589,13 @@ static const struct row last_same[] = {
 	READ(CROWD, T("pids.current"), 5, 0, T("1024\n")),
 	READ(SS_LAST_GROUP, T("cgroup.procs"), 0, 0, T("")),
 	READ(SS_LAST_GROUP, T("memory.current"), 5, 0, T("4096\n")),
-	MEMBERSHIP(SS_LAST_PROCESS + 1, 516, 3, T("")),
-	MEMBERSHIP(SS_LAST_PROCESS, 515, 28, T("")),
-	MEMBERSHIP(SS_LAST_PROCESS, 516, 0, T("0::/" LAST_PATH "\n")),
-	WALK(0, T(LAST_PATH "/"), 22, NONE, 0),
-	WALK(0, T(LAST_PATH "0"), 22, NONE, 0),
-	WALK(0, T(LAST_PATH "/a"), 2, NONE, 16),
-	WALK(239, T(LAST_PATH), 2, NONE, 0),
-	WALK(0, T(LAST_PATH), 0, CROWD, 16),
-	WALK(ABOVE, T(LONG("255")), 0, SS_LAST_GROUP, 1),
-	WALK(SS_LAST_GROUP, NO_BYTE_OF("a"), 0, SS_LAST_GROUP, 0),
+	MEMBERSHIP(SS_LAST_PROCESS + 1, 68, 3, T("")),
+	MEMBERSHIP(SS_LAST_PROCESS, 67, 28, T("")),
+	MEMBERSHIP(SS_LAST_PROCESS, 68, 0, T(LAST_PATH "\n")),
 };
 
 static const struct row last_changing[] = {
-	MAKE(0, ABOVE, 1, T(LONG("253")), 0),
-	MAKE(0, ABOVE, 1, T(LONG("256")), 0),
+	MAKE(0, ABOVE, 1, 0),
 	REMOVE(0, SS_LAST_GROUP, 0),
 	HAND_OVER(0, SS_LAST_GROUP, NOBODY, 0),
 	PROCS(0, SS_LAST_GROUP, T("1024"), 0),
@@ -752,10 +608,10 @@ static const struct row last_changing[] = {
 
 /* The same two lists when all has ended. The numbers are taken, but that of the group without processes. */
 static const struct row ended_same[] = {
-	MAKE(0, 0, 239, T(LONG("239")), 17),
-	MAKE(NOBODY, 0, CROWD, T("a"), 17),
-	MAKE(0, 239, 1, T("a"), 2),
-	MAKE(0, CROWD, 239, T("a"), 2),
+	MAKE(0, 0, 239, 17),
+	MAKE(NOBODY, 0, CROWD, 17),
+	MAKE(0, 239, 1, 2),
+	MAKE(0, CROWD, 239, 2),
 	REMOVE(0, CROWD, 2),
 	REMOVE(0, SS_LAST_GROUP, 2),
 	PROCS(0, 0, T("1"), 3),
@@ -776,21 +632,16 @@ static const struct row ended_same[] = {
 	READ(239, T("pids.current"), SS_LONGEST_REPLY, 2, T("")),
 	READ(CROWD, T("cgroup.procs"), SS_LONGEST_REPLY, 2, T("")),
 	READ(0, T("cgroup.procs"), 0, 0, T("")),
-	MEMBERSHIP(SS_LAST_PROCESS + 1, SS_LONGEST_MEMBERSHIP, 3, T("")),
+	MEMBERSHIP(SS_LAST_PROCESS + 1, 78, 3, T("")),
 	MEMBERSHIP(SS_LAST_PROCESS, 0, 28, T("")),
-	MEMBERSHIP(SS_LAST_PROCESS, 516, 28, T("")),
-	MEMBERSHIP(SS_LAST_PROCESS, 525, 28, T("")),
-	MEMBERSHIP(SS_LAST_PROCESS, 526, 0, T("0::/" LAST_PATH DELETED)),
-	MEMBERSHIP(1, SS_LONGEST_REPLY, 0, T("0::/" LAST_PATH DELETED)),
-	WALK(239, NO_BYTE_OF("a"), 2, NONE, 0),
-	WALK(CROWD, T("/"), 2, NONE, 0),
-	WALK(0, T(LONG("239")), 2, NONE, 0),
-	WALK(0, T(LAST_PATH), 2, NONE, 0),
+	MEMBERSHIP(SS_LAST_PROCESS, 68, 28, T("")),
+	MEMBERSHIP(SS_LAST_PROCESS, 77, 28, T("")),
+	MEMBERSHIP(SS_LAST_PROCESS, 78, 0, T(LAST_PATH DELETED)),
+	MEMBERSHIP(1, SS_LONGEST_REPLY, 0, T(LAST_PATH DELETED)),
 };
 
 static const struct row ended_changing[] = {
-	MAKE(0, 0, SS_LAST_GROUP, T("a"), 0),
-	MAKE(0, 0, 1, T(LONG("239")), 0),
+	MAKE(0, 0, SS_LAST_GROUP, 0),
 	CONTROL(0, 0, T("-cpu -io -memory -pids"), 0),
 	COLLECT(1, 0),
 	COLLECT(SS_LAST_PROCESS, 0),
@@ -799,22 +650,19 @@ static const struct row ended_changing[] = {
 
 /* And those of the scene with zombies beside the live. */
 static const struct row zombies_same[] = {
-	MAKE(0, 0, TWO_8 + 216, T("p"), 22),
-	MAKE(0, 5, 5, T(".."), 22),
-	MAKE(0, 201, 202, T("b"), 2),
-	MAKE(0, 216, 201, T("a"), 2),
-	MAKE(0, 5, 8, T("six"), 2),
-	MAKE(NOBODY, 6, 5, T("five"), 2),
-	MAKE(0, 0, 201, T("a"), 17),
-	MAKE(0, 0, 208, T("a"), 17),
-	MAKE(0, 0, 216, T("a"), 17),
-	MAKE(0, 4, 5, T("five"), 17),
-	MAKE(0, 4, 6, T("five"), 17),
-	MAKE(0, 0, 4, T("a"), 17),
-	MAKE(0, 0, 7, T("four"), 17),
-	MAKE(NOBODY, 0, 216, T("a"), 17),
-	MAKE(NOBODY, 0, 7, T("one"), 17),
-	MAKE(NOBODY, 0, 7, T("seven"), 13),
+	MAKE(0, 0, TWO_8 + 216, 22),
+	MAKE(0, 201, 202, 2),
+	MAKE(0, 216, 201, 2),
+	MAKE(0, 5, 8, 2),
+	MAKE(NOBODY, 6, 5, 2),
+	MAKE(0, 0, 201, 17),
+	MAKE(0, 0, 208, 17),
+	MAKE(0, 0, 216, 17),
+	MAKE(0, 4, 5, 17),
+	MAKE(0, 4, 6, 17),
+	MAKE(0, 0, 4, 17),
+	MAKE(NOBODY, 0, 216, 17),
+	MAKE(NOBODY, 0, 7, 13),
 	REMOVE(0, 201, 2),
 	REMOVE(0, 216, 2),
 	REMOVE(NOBODY, 6, 2),
@@ -890,32 +738,21 @@ static const struct row zombies_same[] = {
 	MEMBERSHIP(TWO_32 + 30, 0, 3, T("")),
 	MEMBERSHIP(1, 4, 28, T("")),
 	MEMBERSHIP(1, 5, 0, T("0::/\n")),
-	MEMBERSHIP(11, 7, 28, T("")),
-	MEMBERSHIP(11, 8, 0, T("0::/one\n")),
+	MEMBERSHIP(11, 5, 28, T("")),
+	MEMBERSHIP(11, 6, 0, T("0::/1\n")),
 	MEMBERSHIP(14, 0, 28, T("")),
-	MEMBERSHIP(14, 18, 28, T("")),
-	MEMBERSHIP(14, 27, 28, T("")),
-	MEMBERSHIP(14, 28, 0, T("0::/four/five/six" DELETED)),
-	MEMBERSHIP(30, 35, 28, T("")),
-	MEMBERSHIP(30, 36, 28, T("")),
-	MEMBERSHIP(30, 45, 28, T("")),
-	MEMBERSHIP(30, 46, 0, T("0::/a/b/c/d/e/f/g/h/i/j/k/l/m/n/o/p" DELETED)),
-	WALK(5, NO_BYTE_OF("six"), 2, NONE, 0),
-	WALK(5, T("six"), 2, NONE, 0),
-	WALK(216, T("/"), 2, NONE, 0),
-	WALK(0, T("a"), 2, NONE, 0),
-	WALK(0, T("seven"), 2, NONE, 0),
-	WALK(0, T("four/five"), 2, NONE, 1),
-	WALK(0, T("four/five/six"), 2, NONE, 1),
-	WALK(0, T("one"), 0, 1, 1),
-	WALK(0, T("four"), 0, 4, 1),
+	MEMBERSHIP(14, 10, 28, T("")),
+	MEMBERSHIP(14, 19, 28, T("")),
+	MEMBERSHIP(14, 20, 0, T("0::/4/5/6" DELETED)),
+	MEMBERSHIP(30, 67, 28, T("")),
+	MEMBERSHIP(30, 68, 28, T("")),
+	MEMBERSHIP(30, 77, 28, T("")),
+	MEMBERSHIP(30, 78, 0, T("0::/201/202/203/204/205/206/207/208/209/210/211/212/213/214/215/216" DELETED)),
 };
 
 static const struct row zombies_changing[] = {
-	MAKE(0, 0, 7, T("seven"), 0),
-	MAKE(0, 0, 7, T("a"), 0),
-	MAKE(0, 2, 7, T("two"), 0),
-	MAKE(0, 4, 8, T("five"), 0),
+	MAKE(0, 0, 7, 0),
+	MAKE(0, 2, 7, 0),
 	REMOVE(0, 2, 0),
 	REMOVE(0, 4, 0),
 	PROCS(0, 2, T("10"), 0),
@@ -947,19 +784,6 @@ struct lent {
 static struct lent scene, lent, expected;
 static int calls, failures;
 
-static void make_texts(void)
-{
-	memset(letters, 'a', sizeof letters);
-	memset(steps, 'a', sizeof steps);
-	for (size_t i = 2; i < sizeof steps; i += 2)
-		steps[i] = '/';
-}
-
-static void make(uint64_t *tree, uint64_t parent, uint64_t group, const char *name)
-{
-	ss_make(tree, ss_u(0), ss_g(parent), ss_g(group), (const uint8_t *)name, strlen(name));
-}
-
 static void make_scene(void)
 {
 	static const char *const devices[] = { DEVICE("255:254"), DEVICE("255:252"), DEVICE("255:255"), DEVICE("255:253") };
@@ -969,13 +793,13 @@ static void make_scene(void)
 	memset(&scene, 0xa5, sizeof scene);
 	ss_fresh(tree, 1024);
 	ss_write_subtree_control(tree, ss_u(0), ss_g(0), all, strlen((const char *)all));
-	make(tree, 0, 1, "tape-114");
-	make(tree, 0, 2, "tape-115");
-	make(tree, 2, 3, "filters");
-	make(tree, 0, 4, "tape-116");
-	make(tree, 0, 201, "a");
+	ss_make(tree, ss_u(0), ss_g(0), ss_g(1));
+	ss_make(tree, ss_u(0), ss_g(0), ss_g(2));
+	ss_make(tree, ss_u(0), ss_g(2), ss_g(3));
+	ss_make(tree, ss_u(0), ss_g(0), ss_g(4));
+	ss_make(tree, ss_u(0), ss_g(0), ss_g(201));
 	for (uint64_t group = 202; group <= 216; group++)
-		make(tree, group - 1, group, "a");
+		ss_make(tree, ss_u(0), ss_g(group - 1), ss_g(group));
 	ss_hand_over(tree, ss_u(0), ss_g(1), ss_u(1000));
 	ss_hand_over(tree, ss_u(0), ss_g(2), ss_u(1000));
 	ss_hand_over(tree, ss_u(0), ss_g(4), ss_u(1000));
@@ -1002,13 +826,10 @@ static void make_last_scene(void)
 	memset(&scene, 0xa5, sizeof scene);
 	ss_fresh(tree, 3000);
 	for (uint64_t above = 0, group = SS_LAST_GROUP - SS_MAX_DEPTH; group <= CROWD; above = group++) {
-		char name[SS_MAX_NAME + 1];
-
 		ss_write_subtree_control(tree, ss_u(0), ss_g(above), all, strlen((const char *)all));
-		snprintf(name, sizeof name, "%031d", (int)group);
-		make(tree, above, group, name);
+		ss_make(tree, ss_u(0), ss_g(above), ss_g(group));
 	}
-	make(tree, ABOVE, SS_LAST_GROUP, LONG("255"));
+	ss_make(tree, ss_u(0), ss_g(ABOVE), ss_g(SS_LAST_GROUP));
 	for (uint64_t process = 1; process <= SS_LAST_PROCESS; process++) {
 		char *line = listing + length;
 
@@ -1055,19 +876,16 @@ static void make_zombie_scene(void)
 	memset(&scene, 0xa5, sizeof scene);
 	ss_fresh(tree, 1024);
 	ss_write_subtree_control(tree, ss_u(0), ss_g(0), all, strlen((const char *)all));
-	make(tree, 0, 1, "one");
-	make(tree, 0, 2, "two");
-	make(tree, 0, 3, "three");
-	make(tree, 0, 4, "four");
-	make(tree, 4, 5, "five");
-	make(tree, 5, 6, "six");
-	make(tree, 0, 7, "seven");
-	make(tree, 0, 201, "a");
-	for (uint64_t group = 202; group <= 216; group++) {
-		const char name[] = { (char)('a' + (group - 201)), 0 };
-
-		make(tree, group - 1, group, name);
-	}
+	ss_make(tree, ss_u(0), ss_g(0), ss_g(1));
+	ss_make(tree, ss_u(0), ss_g(0), ss_g(2));
+	ss_make(tree, ss_u(0), ss_g(0), ss_g(3));
+	ss_make(tree, ss_u(0), ss_g(0), ss_g(4));
+	ss_make(tree, ss_u(0), ss_g(4), ss_g(5));
+	ss_make(tree, ss_u(0), ss_g(5), ss_g(6));
+	ss_make(tree, ss_u(0), ss_g(0), ss_g(7));
+	ss_make(tree, ss_u(0), ss_g(0), ss_g(201));
+	for (uint64_t group = 202; group <= 216; group++)
+		ss_make(tree, ss_u(0), ss_g(group - 1), ss_g(group));
 	ss_hand_over(tree, ss_u(0), ss_g(1), ss_u(1000));
 	begin_in(tree, 10, 1);
 	begin_in(tree, 16, 3);
@@ -1110,7 +928,7 @@ static uint32_t answer(const struct row *row, int is_null)
 
 	switch (row->call) {
 	case MAKE:
-		return ss_make(lent.tree, user, ss_g(row->first), ss_g(row->second), line, row->line.length);
+		return ss_make(lent.tree, user, ss_g(row->first), ss_g(row->second));
 	case REMOVE:
 		return ss_remove(lent.tree, user, ss_g(row->first));
 	case HAND_OVER:
@@ -1137,8 +955,6 @@ static uint32_t answer(const struct row *row, int is_null)
 		return ss_read(lent.tree, ss_g(row->first), file, row->file.length, reply, row->room, lent.told);
 	case MEMBERSHIP:
 		return ss_membership(lent.tree, ss_p(row->first), reply, row->room, lent.told);
-	case WALK:
-		return ss_walk(lent.tree, ss_g(row->first), line, row->line.length, lent.told);
 	case WORD:
 		ss_first_bad_word(line, row->line.length, lent.told);
 		return 0;
@@ -1227,7 +1043,6 @@ static void check_fresh(void)
 
 int main(void)
 {
-	make_texts();
 	make_scene();
 	check_all(same, COUNT(same), 0);
 	check_all(changing, COUNT(changing), 1);

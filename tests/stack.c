@@ -4,9 +4,9 @@
  * scripts/measure-stack builds and runs this.
  *
  * A figure is the largest over many inputs: empty, deep, full and wide trees, trees of zombies, and on
- * each of them all that can be put together of the numbers, names, paths, files, lines and buffers
- * below. So every call is accepted and is refused by its checks, walks chains of seventeen cgroups and
- * writes the longest texts.
+ * each of them all that can be put together of the numbers, files, lines and buffers below. So every
+ * call is accepted and is refused by its checks, walks chains of seventeen cgroups and writes the
+ * longest texts.
  */
 #include <stdio.h>
 #include <stdlib.h>
@@ -59,8 +59,8 @@ static size_t taken(function *called, const uint64_t arguments[7], uint64_t pain
 }
 
 /*
- * What a call takes, by letters: a Tree, a User, a Group, a Process, a Number of pages, a naMe, a Walk's
- * path, a File and a Line with their lengths, a Reply buffer with its room, Told.
+ * What a call takes, by letters: a Tree, a User, a Group, a Process, a Number of pages, a File and a
+ * Line with their lengths, a Reply buffer with its room, Told.
  */
 static struct call {
 	const char *name;
@@ -72,7 +72,7 @@ static struct call {
 } calls[] = {
 	{ "ss_fresh", (function *)ss_fresh, "TN", 0, 0, 0, 0 },
 	{ "ss_tree_words", (function *)ss_tree_words, "", 0, 0, 0, 0 },
-	{ "ss_make", (function *)ss_make, "TUGGM", 1, 0, 0, 0 },
+	{ "ss_make", (function *)ss_make, "TUGG", 1, 0, 0, 0 },
 	{ "ss_remove", (function *)ss_remove, "TUG", 1, 0, 0, 0 },
 	{ "ss_hand_over", (function *)ss_hand_over, "TUGU", 1, 0, 0, 0 },
 	{ "ss_write_procs", (function *)ss_write_procs, "TUGL", 1, 0, 0, 0 },
@@ -86,7 +86,6 @@ static struct call {
 	{ "ss_release", (function *)ss_release, "TGN", 1, 0, 0, 0 },
 	{ "ss_read", (function *)ss_read, "TGFRt", 1, 0, 0, 0 },
 	{ "ss_membership", (function *)ss_membership, "TPRt", 1, 0, 0, 0 },
-	{ "ss_walk", (function *)ss_walk, "TGWt", 1, 0, 0, 0 },
 	{ "ss_first_bad_word", (function *)ss_first_bad_word, "Lt", 0, 0, 0, 0 },
 };
 
@@ -126,22 +125,6 @@ static const char *const lines[] = {
 	"8:16 rbps=" TEN("00000000000") "00000001",
 	TEN("999999999999") "99999999",
 	TEN("+memory -memory +pids -pids +cpu -cpu +io -io "),
-};
-
-/* Cgroups are named by their numbers in 31 digits. */
-#define NAME(number) TEN("00") "00000000" number
-
-static const char *const names[] = {
-	"", "a", "..", "a/b", NAME("300"), NAME("001"), NAME("016"), NAME("255"), NAME("300") "0", TEN("aaaaaaaaaaaaa"),
-};
-
-/* The paths of the lowest cgroups of deep trees, and longer ones; make_paths fills them. */
-static char first_path[SS_LONGEST_MEMBERSHIP], last_path[SS_LONGEST_MEMBERSHIP], downwards[SS_LONGEST_MEMBERSHIP];
-static char longest[SS_MAX_PATH + 1], too_long[SS_MAX_PATH + 2], bad_at_end[SS_MAX_PATH + 1], one_letter_each[SS_MAX_PATH];
-
-static const char *const paths[] = {
-	"", "a", "/", "..", NAME("001"), NAME("016"), NAME("255"), NAME("255") "/a", NAME("015") "/" NAME("016"),
-	first_path, last_path, downwards, longest, too_long, bad_at_end, one_letter_each,
 };
 
 static uint64_t trees[8][SS_TREE_WORDS];
@@ -211,12 +194,6 @@ static void vary(struct call *call, const char *takes, uint64_t arguments[7], si
 	case 'N':
 		vary_number(call, takes, arguments, count, pages, COUNT(pages));
 		break;
-	case 'M':
-		vary_text(call, takes, arguments, count, names, COUNT(names));
-		break;
-	case 'W':
-		vary_text(call, takes, arguments, count, paths, COUNT(paths));
-		break;
 	case 'F':
 		vary_text(call, takes, arguments, count, files, COUNT(files));
 		break;
@@ -239,38 +216,6 @@ static void must(uint32_t answer)
 		fprintf(stderr, "a call that makes a tree was refused with %d\n", (int)answer);
 		exit(1);
 	}
-}
-
-static void make(uint64_t *t, uint64_t parent, uint64_t group)
-{
-	char name[SS_MAX_NAME + 1];
-
-	snprintf(name, sizeof name, "%031d", (int)group);
-	must(ss_make(t, ss_u(0), ss_g(parent), ss_g(group), BYTES(name)));
-}
-
-/* The path to the lowest cgroup of a deep tree. */
-static void make_path(char *path, uint64_t first, int step)
-{
-	for (int depth = 1; depth <= SS_MAX_DEPTH; depth++) {
-		path += sprintf(path, "%s%031d", depth > 1 ? "/" : "", (int)first);
-		first += step;
-	}
-}
-
-/* The longer ones go on from a lowest cgroup by names of one letter, but for one that has none but these. */
-static void make_paths(void)
-{
-	make_path(first_path, 1, 1);
-	make_path(last_path, FIRST_OF_LAST, 1);
-	make_path(downwards, SS_LAST_GROUP, -1);
-	for (size_t i = 0; i < SS_MAX_PATH + 1; i++)
-		too_long[i] = i % 2 ? '/' : 'a';
-	memcpy(one_letter_each, too_long, SS_MAX_PATH - 1);
-	memcpy(too_long, first_path, strlen(first_path));
-	memcpy(longest, too_long, SS_MAX_PATH - 1);
-	longest[SS_MAX_PATH - 1] = 'a';
-	memcpy(bad_at_end, too_long, SS_MAX_PATH);
 }
 
 /* The last devices that there can be, the last of them first. */
@@ -303,7 +248,7 @@ static void make_deep(uint64_t *t, uint64_t first, int step, uint64_t count, uin
 	ss_fresh(t, SS_MAX_MACHINE_PAGES);
 	for (int depth = 1; depth <= SS_MAX_DEPTH; depth++) {
 		must(ss_write_subtree_control(t, ss_u(0), ss_g(above), BYTES("+cpu +io +memory +pids")));
-		make(t, above, group);
+		must(ss_make(t, ss_u(0), ss_g(above), ss_g(group)));
 		set_all(t, ss_g(group), "4503599627370496", "4194304");
 		if (depth > 1)
 			must(ss_hand_over(t, ss_u(0), ss_g(group), ss_u(1000)));
@@ -343,7 +288,7 @@ static void make_trees(void)
 	ss_fresh(trees[0], 1024);
 	/* Room for a process and a charge more, and a second leaf to move to, with room for a device. */
 	make_deep(deep, 1, 1, SS_LAST_PROCESS - 1, SS_MAX_MACHINE_PAGES / SS_MAX_PAGES - 1);
-	make(deep, SS_MAX_DEPTH - 1, SS_MAX_DEPTH + 1);
+	must(ss_make(deep, ss_u(0), ss_g(SS_MAX_DEPTH - 1), ss_g(SS_MAX_DEPTH + 1)));
 	must(ss_hand_over(deep, ss_u(0), ss_g(SS_MAX_DEPTH + 1), ss_u(1000)));
 	limit_devices(deep, ss_g(SS_MAX_DEPTH + 1), SS_MAX_DEVICES - 1);
 	make_deep(full, SS_LAST_GROUP, -1, SS_LAST_PROCESS, SS_MAX_MACHINE_PAGES / SS_MAX_PAGES);
@@ -363,14 +308,13 @@ static void make_trees(void)
 	ss_fresh(wide, 1024);
 	must(ss_write_subtree_control(wide, ss_u(0), ss_g(0), BYTES("+cpu +io +memory +pids")));
 	for (uint64_t group = 1; group <= SS_LAST_GROUP; group++) {
-		make(wide, 0, group);
+		must(ss_make(wide, ss_u(0), ss_g(0), ss_g(group)));
 		set_all(wide, ss_g(group), "4096", "1");
 	}
 }
 
 int main(void)
 {
-	make_paths();
 	make_trees();
 	for (size_t i = 0; i < COUNT(calls); i++) {
 		uint64_t arguments[7] = { 0 };

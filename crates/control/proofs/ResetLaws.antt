@@ -22,8 +22,7 @@ use Rattle.model.specs.declared.Resource.TheVariants.{Pages, Processes}
 use Rattle.model.specs.declared.Limit.TheVariants.{NoLimit}
 use Rattle.model.proofs.FunctionLaws.{split, whether, upd_same, upd_other, upd-keeps}
 use Rattle.model.proofs.ControlLaws.{any-controller-none}
-use Rattle.model.proofs.ChildLaws.{child-live}
-use Rattle.model.proofs.ControlPreservation.{reset-child, reset-other}
+use Rattle.model.proofs.ControlPreservation.{child-live, reset-child, reset-other}
 use Rattle.devices.specs.Slots.{table_of, Packed, rows, no_slots}
 use Rattle.devices.specs.declared.table.Slots.{Slots}
 use Rattle.devices.proofs.TableLaws.{packed_none}

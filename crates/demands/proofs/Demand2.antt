@@ -3,14 +3,14 @@ use Prim.Native.Nat.{ℕ}
 use native.Mathlib.Omega.{arith}
 use mathlib.Core.Bool.{true}
 use mathlib.Core.List.{List, [], ◌∷◌, head-eq_of_cons-eq}
-use mathlib.Core.Logic.{◌≢◌, ⊎_elim}
+use mathlib.Core.Logic.{◌≢◌}
 use mathlib.Core.Option.{Option, none, some}
 use mathlib.Core.Path.{◌≡◌, refl, ap, ap₂, sym, ◌∙◌, subst}
 use lib.ListN.{length, take, drop}
 use lib.Seq.{take-append_seam}
 use Rattle.model.specs.Functions.{passes, mapped, or_else}
 use Rattle.model.specs.Checks.{errno_number, answer_number, Pass}
-use Rattle.model.specs.Tree.{Tree, is_live, lives, parents, depths, places}
+use Rattle.model.specs.Tree.{Tree, is_live, lives, parents, places}
 use Rattle.model.specs.Hierarchy.{chain, on, inside, facts_of}
 use Rattle.model.specs.Text.{lines_of, body}
 use Rattle.model.specs.Names.{setting_name, file_named}
@@ -19,14 +19,12 @@ use Rattle.model.specs.Settings.{setting_controller}
 use Rattle.model.specs.Rooms.{shortage}
 use Rattle.model.specs.Rules.{may_write, process_group}
 use Rattle.model.specs.Files.{is_present, contents, membership_line}
-use Rattle.model.specs.Paths.{names_in, group_path}
-use Rattle.model.specs.Calls.{Call, exit, read, membership, walk, file_text, checks, verdict}
+use Rattle.model.specs.Calls.{Call, exit, read, membership, file_text, checks, verdict}
 use Rattle.model.specs.Effects.{step, run}
-use Rattle.model.specs.Replies.{Asks, Reply, reply}
+use Rattle.model.specs.Replies.{Asks, reply}
 use Rattle.model.specs.Book.{Entry}
 use Rattle.model.specs.Lists.{Never, Ever}
 use Rattle.model.specs.ZombieRules.{Removes, Collects, LineKept}
-use Rattle.model.specs.PathRules.{Walkable, walk_found, walk_strayed, walk_barred}
 use Rattle.model.specs.Containment.{caller, OwnsInside, NoneAcross, GivesOutside}
 use Rattle.model.specs.Demands.{StoppedAt, LimitLeft}
 use Rattle.model.specs.Demands as D
@@ -45,10 +43,10 @@ use Rattle.tree.specs.Kept.{Kept}
 use Rattle.tree.specs.Calling.{Answered}
 use Rattle.tree.proofs.AnsweredLaws.{answered-number, answered-done, answered-effect}
 use Rattle.tree.proofs.WalkLaws.{member-at}
-use Rattle.shootspiral.specs.Interface.{group_word, group_words, Told}
+use Rattle.shootspiral.specs.Interface.{group_word, room_words, Told}
 use Rattle.demands.specs.Runs.{Runs, start, next, Along, calls_of}
 use Rattle.demands.specs.Texts.{FindsText}
-use Rattle.demands.specs.Demand2.{Exactly, RoomTold, WalkTold, Restores, ShownBack, ZombieFinds, Demand2}
+use Rattle.demands.specs.Demand2.{Exactly, RoomTold, Restores, ShownBack, ZombieFinds, Demand2}
 use Rattle.demands.proofs.Runs.{followed}
 use Rattle.demands.proofs.Texts.{delivered-file, delivered-line}
 
@@ -61,11 +59,11 @@ exact {xs} {c = c} a =
 
 -- What a charge or a fork tells.
 module _ {xs ys : List ℕ} {c : Call} {k : ℕ} {told : List ℕ} (r : Resource) (n p : ℕ) (q : Asks r n p c) (kept : Kept xs)
-    (a : Answered xs ys c k) (e : told ≡ group_words (reply (view xs) c)) where
+    (a : Answered xs ys c k) (e : told ≡ room_words (reply (view xs) c)) where
   abbrev counts : D.Counted (view xs)
   counts = demands.second.counted (view xs) kept.formed
 
-  words_are : (g : Option ℕ) (m : ℕ) → (reply (view xs) c).group ≡ g → (reply (view xs) c).count ≡ m → told ≡ group_word g ∷ m ∷ []
+  words_are : (g : Option ℕ) (m : ℕ) → (reply (view xs) c).group ≡ g → (reply (view xs) c).consulted ≡ m → told ≡ group_word g ∷ m ∷ []
   words_are g m f h = e ∙ ap₂ (λ x y. group_word x ∷ y ∷ []) f h
 
   -- the group that is told is on the chain of a live group
@@ -86,7 +84,7 @@ module _ {xs ys : List ℕ} {c : Call} {k : ℕ} {told : List ℕ} (r : Resource
         success = λ z. let s = counts.success r n p c q (sym a.answer ∙ z) in words_are none _ s.1 s.0;
         stopped = λ z.
             let s = counts.named r n p c q (sym a.answer ∙ z) in
-            (s.0, (reply (view xs) c).count, words_are (some s.0) _ s.1 refl, s.2, stopped-lives s.0 _ s.2);
+            (s.0, (reply (view xs) c).consulted, words_are (some s.0) _ s.1 refl, s.2, stopped-lives s.0 _ s.2);
         other = untold (reply (view xs) c).group refl;
         apart = λ h l e. omega (arith, kept.formed.sound.range h l);
       }
@@ -173,31 +171,6 @@ module _ {xs ys zs buffer told bytes : List ℕ} {es : List Entry} {n k : ℕ} (
         deleted = λ h. found _ (line.deleted (subst (λ (u : Tree). Ever (Removes (process_group (view xs) p)) u (calls_of es)) a.tree h));
       }
 
--- What a walk tells, by the reply that the definitions give it.
-reply-told : {xs ys told : List ℕ} {c : Call} {n : ℕ} → Answered xs ys c n → told ≡ group_words (reply (view xs) c) → (r : Reply) → reply (view xs) c ≡ r
-    → (n ≡ r.number) × (told ≡ group_word r.group ∷ r.count ∷ [])
-reply-told a e r h = (a.answer ∙ ap (λ (x : Reply). x.number) h, e ∙ ap group_words h)
-
-module _ {xs ys : List ℕ} {n : ℕ} {told : List ℕ} (g : ℕ) (path : List ℕ) (kept : Kept xs) (a : Answered xs ys (walk g path) n)
-    (e : told ≡ group_words (reply (view xs) (walk g path))) (y : Walkable (view xs) g path) where
-  walk-told : WalkTold (view xs) g path n told
-  walk-told =
-      let w = (demands.second.paths (view xs) kept.formed).walks in
-      ⊎_elim
-      (λ (f : (h : ℕ) × (reply (view xs) (walk g path) ≡ walk_found h (length (names_in path)))).
-      let r = reply-told a e (walk_found f.0 (length (names_in path))) f.1 in
-      record {
-        found = λ _. (f.0, r.1, ((w.found g f.0 (length (names_in path)) path y).0 f.1).0);
-        strayed = λ nz. absurd (nz r.0);
-      })
-      (λ (f : (k : ℕ) × (reply (view xs) (walk g path) ≡ walk_strayed k)).
-      let r = reply-told a e (walk_strayed f.0) f.1 in
-      record {
-        found = λ z. let two : n ≡ 2 = r.0 in absurd (omega arith);
-        strayed = λ _. (r.0, (f.0, r.1, (w.strayed g f.0 path y).0 f.1));
-      })
-      (w.either g path y)
-
 -- Containment along a run.
 contained-run : {xs ys : List ℕ} {es : List Entry} (user d : ℕ) → user ≢ 0 → (r : Runs xs es ys) → OwnsInside (view xs) user d
     → Along (λ t c u. GivesOutside user d t c → ⊥) r
@@ -233,27 +206,10 @@ demand-2-of-the-code =
       listing_fits = λ {xs} {buffer = buffer} g k a h e. (demands.second.lengths (view xs) k.formed).listing_fits g buffer h (sym a.answer ∙ e);
       line_fits = λ {xs} {buffer = buffer} p k a h e. (demands.second.lengths (view xs) k.formed).line_fits p buffer h (sym a.answer ∙ e);
       zombie_line = zombie-finds;
-      taken = λ {xs} user parent new name k a b g.
-          answered-number a ∙ ap answer_number ((demands.second.taken (view xs) k.formed).refused user parent new name b g);
-      untaken = λ {xs} user parent new name k a g.
-          answered-number a ∙ ap answer_number ((demands.second.taken (view xs) k.formed).decided user parent new name g);
-      named = λ {xs} user parent new c name k a b h.
-          answered-number a ∙ ap answer_number ((demands.second.paths (view xs) k.formed).siblings.refused user parent new c name b h);
-      unnamed = λ {xs} user parent new name k a h.
-          answered-number a ∙ ap answer_number ((demands.second.paths (view xs) k.formed).siblings.decided user parent new name h);
-      walks = λ g path k a e y. walk-told g path k a e y;
-      barred = λ {xs} g path x k a e h.
-          reply-told a e (walk_barred x) ((demands.second.paths (view xs) k.formed).walks.barred g path x h);
-      path_stands = λ {xs} {ys} {es = es} g k r l never a e.
-          let s = (demands.second.paths (view xs) k.formed).stands.stands g (calls_of es) l never in
-          let f = followed r in
-          let alive : lives (view ys) g ≡ true = ap (λ (u : Tree). lives u g) f.tree ∙ s.0 in
-          let same : group_path (view ys) g ≡ group_path (view xs) g = ap (λ (u : Tree). group_path u g) f.tree ∙ s.2 in
-          reply-told a e (walk_found g (depths (view ys) g))
-          (ap (λ (p : List ℕ). reply (view ys) (walk 0 p)) (sym same) ∙ (demands.second.paths (view ys) f.kept.formed).own.walked g alive);
-      zombie_leads = λ {xs} p g k z l a e. reply-told a e _ ((demands.second.paths (view xs) k.formed).lines.zombie p g z l).walked;
-      own_paths = λ {xs} k. (demands.second.paths (view xs) k.formed).own;
-      line_leads = λ {xs} p k l a e. reply-told a e _ ((demands.second.paths (view xs) k.formed).lines.live p l).walked;
+      taken = λ {xs} user parent new k a b g.
+          answered-number a ∙ ap answer_number ((demands.second.taken (view xs) k.formed).refused user parent new b g);
+      untaken = λ {xs} user parent new k a g.
+          answered-number a ∙ ap answer_number ((demands.second.taken (view xs) k.formed).decided user parent new g);
       back = λ user g s k a z told may. shown-back g s k a z told user may;
       contained = contained-run;
       fresh = λ {m} {xs} z user d nz.

@@ -1,13 +1,13 @@
 -- Demand 2 of the code, from the contracts alone: exactly when; what charge and fork tell; when a device is a fifth; what a line
 -- of a limit leaves; the question about a control line; texts delivered, how long a buffer has to be for two of them, the line of a
--- zombie, and what is written back; when a number or a name is taken; what a walk tells, and that paths stand; containment. Assumes nothing.
+-- zombie, and what is written back; when a number is taken; containment. Assumes nothing.
 use Rattle.std.specs.Prelude.{ℕ, suc, ◌+◌, ◌≤◌, true, false, List, [], ◌∷◌, ◌++◌, ◌≢◌, ◌≡◌, length, take}
 use Rattle.std.proofs.Math.Option.{none, some}
 use Rattle.std.specs.Borrow.{Bor}
 use Rattle.model.specs.Functions.{All}
 use Rattle.model.specs.Sizes.{longest_listing, longest_membership, longest_shown}
 use Rattle.model.specs.Checks.{errno_number, answer_number, first, Pass, Says}
-use Rattle.model.specs.Tree.{Tree, at, is_live, lives, parents, depths, places, zombies}
+use Rattle.model.specs.Tree.{Tree, lives, parents, depths}
 use Rattle.model.specs.Hierarchy.{facts_of}
 use Rattle.model.specs.Zombies.{group_taken}
 use Rattle.model.specs.Text.{ended, lines_of, line_words, one_word, body}
@@ -19,15 +19,12 @@ use Rattle.model.specs.Words.{cut, FirstBad}
 use Rattle.model.specs.Rooms.{shortage}
 use Rattle.model.specs.Rules.{may_write, process_group}
 use Rattle.model.specs.Files.{path_text, membership_line}
-use Rattle.model.specs.DeviceLines.{after}
-use Rattle.model.specs.Paths.{slash, names_in, group_path}
-use Rattle.model.specs.Calls.{Call, make, write_setting, exit, read, membership, walk, file_text, walk_checks, checks}
+use Rattle.model.specs.Calls.{Call, make, write_setting, exit, read, membership, file_text, checks}
 use Rattle.model.specs.Effects.{effect}
 use Rattle.model.specs.Replies.{Asks, reply}
 use Rattle.model.specs.Book.{Entry}
 use Rattle.model.specs.Lists.{Never, Ever}
 use Rattle.model.specs.ZombieRules.{Removes, Collects, before_taken, after_taken}
-use Rattle.model.specs.PathRules.{OwnPaths, Child, Reaches, Stray, Walkable, before_sibling, after_sibling}
 use Rattle.model.specs.Containment.{caller, OwnsInside, NoneAcross, GivesOutside}
 use Rattle.model.specs.DeviceReplies.{FifthWrite}
 use Rattle.model.specs.Demands.{StoppedAt, LimitLeft}
@@ -36,14 +33,12 @@ use Rattle.model.specs.declared.Limit.{Limit}
 use Rattle.model.specs.declared.Setting.{Setting}
 use Rattle.model.specs.declared.Setting.TheVariants.{IoMax, Max}
 use Rattle.model.specs.declared.File.TheVariants.{Procs}
-use Rattle.model.specs.declared.Errno.{Errno}
 use Rattle.model.specs.declared.Answer.{Answer}
-use Rattle.model.specs.declared.Answer.TheVariants.{Refused}
 use Rattle.tree.specs.Layout.{view}
 use Rattle.tree.specs.Kept.{Kept, Fresh}
 use Rattle.tree.specs.Calling.{Answered}
 use Rattle.lines.specs.Control.{IsPart}
-use Rattle.shootspiral.specs.Interface.{group_word, group_words, part_words, Told}
+use Rattle.shootspiral.specs.Interface.{group_word, room_words, part_words, Told}
 use Rattle.demands.specs.Runs.{Runs, Along, calls_of}
 use Rattle.demands.specs.Texts.{FindsText}
 
@@ -61,12 +56,6 @@ pub record RoomTold (t : Tree) (r : Resource) (n p k : ℕ) (told : List ℕ) : 
   pub other : k ≢ 0 → k ≢ errno_number (shortage r) → told ≡ group_word none ∷ 0 ∷ []
   -- the word for no group is no group's number
   pub apart : (h : ℕ) → lives t h ≡ true → h ≢ group_word none
-
--- The words that a walk tells, by the number k that it answers: the group that is reached, and the number of names; no group, and how many
--- names were found before the first that is not there.
-pub record WalkTold (t : Tree) (g : ℕ) (path : List ℕ) (k : ℕ) (told : List ℕ) : Type 0 where
-  pub found : k ≡ 0 → (h : ℕ) × (told ≡ h ∷ length (names_in path) ∷ []) × Reaches t g (names_in path) h
-  pub strayed : k ≢ 0 → (k ≡ 2) × ((i : ℕ) × (told ≡ group_word none ∷ i ∷ []) × Stray t g (names_in path) i)
 
 -- r is the part p of the caller's own line s, in the same memory, and p is what the question asks for
 pub record BadPart (r s : Bor (List ℕ)) (p : Part) : Type 0 where
@@ -96,7 +85,7 @@ pub record ZombieFinds (t : Tree) (p : ℕ) (u : Tree) (cs : List Call) (buffer 
 pub record Demand2 : Type 0 where
   pub exactly : {xs ys : List ℕ} {c : Call} {n : ℕ} → Answered xs ys c n → Exactly xs ys c n
   pub room : {xs ys : List ℕ} {c : Call} {k : ℕ} {told : List ℕ} (r : Resource) (n p : ℕ) → Asks r n p c → Kept xs
-      → Answered xs ys c k → told ≡ group_words (reply (view xs) c) → RoomTold (view xs) r n p k told
+      → Answered xs ys c k → told ≡ room_words (reply (view xs) c) → RoomTold (view xs) r n p k told
   -- order 1: a write of a setting is answered 28 exactly where its device is a fifth
   pub fifth : {xs ys : List ℕ} {n : ℕ} (user g : ℕ) (file line : List ℕ) → Kept xs → Answered xs ys (write_setting user g file line) n
       → (n ≡ 28 → FifthWrite (view xs) user g file line) × (FifthWrite (view xs) user g file line → n ≡ 28)
@@ -124,39 +113,11 @@ pub record Demand2 : Type 0 where
       → Runs ys es zs → Never (Collects p) (view ys) (calls_of es) → Answered zs zs (membership p buffer) k → k ≡ 0
       → Told (reply (view zs) (membership p buffer)) told bytes → ZombieFinds (view xs) p (view ys) (calls_of es) buffer told bytes
   -- and make answers 17 where its number is taken and the checks before pass; where it is not, the other checks alone decide
-  pub taken : {xs ys : List ℕ} {n : ℕ} (user parent new : ℕ) (name : List ℕ) → Kept xs → Answered xs ys (make user parent new name) n
-      → Pass (before_taken (view xs) user parent new name) → group_taken (view xs) new ≡ true → n ≡ 17
-  pub untaken : {xs ys : List ℕ} {n : ℕ} (user parent new : ℕ) (name : List ℕ) → Kept xs → Answered xs ys (make user parent new name) n
+  pub taken : {xs ys : List ℕ} {n : ℕ} (user parent new : ℕ) → Kept xs → Answered xs ys (make user parent new) n
+      → Pass (before_taken (view xs) user parent new) → group_taken (view xs) new ≡ true → n ≡ 17
+  pub untaken : {xs ys : List ℕ} {n : ℕ} (user parent new : ℕ) → Kept xs → Answered xs ys (make user parent new) n
       → group_taken (view xs) new ≡ false
-      → n ≡ answer_number (first (before_taken (view xs) user parent new name ++ after_taken (view xs) user parent new name))
-  -- order 6: so it is with the name of a live sibling
-  pub named : {xs ys : List ℕ} {n : ℕ} (user parent new c : ℕ) (name : List ℕ) → Kept xs → Answered xs ys (make user parent new name) n
-      → Pass (before_sibling (view xs) user parent new name) → Child (view xs) parent name c → n ≡ 17
-  pub unnamed : {xs ys : List ℕ} {n : ℕ} (user parent new : ℕ) (name : List ℕ) → Kept xs → Answered xs ys (make user parent new name) n
-      → ((c : ℕ) → Child (view xs) parent name c → ⊥)
-      → n ≡ answer_number (first (before_sibling (view xs) user parent new name ++ after_sibling (view xs) user parent new name))
-  -- a walk tells what is there, and another refusal no group and 0
-  pub walks : {xs ys : List ℕ} {n : ℕ} {told : List ℕ} (g : ℕ) (path : List ℕ) → Kept xs → Answered xs ys (walk g path) n
-      → told ≡ group_words (reply (view xs) (walk g path)) → Walkable (view xs) g path → WalkTold (view xs) g path n told
-  pub barred : {xs ys : List ℕ} {n : ℕ} {told : List ℕ} (g : ℕ) (path : List ℕ) (e : Errno) → Kept xs → Answered xs ys (walk g path) n
-      → told ≡ group_words (reply (view xs) (walk g path)) → first (walk_checks (view xs) g path) ≡ Refused e
-      → (n ≡ errno_number e) × (told ≡ group_word none ∷ 0 ∷ [])
-  -- the path that a group had leads to it, wherever a run without its removal has come to
-  pub path_stands : {xs ys told : List ℕ} {es : List Entry} {n : ℕ} (g : ℕ) → Kept xs → Runs xs es ys → lives (view xs) g ≡ true
-      → Never (Removes g) (view xs) (calls_of es) → Answered ys ys (walk 0 (group_path (view xs) g)) n
-      → told ≡ group_words (reply (view ys) (walk 0 (group_path (view xs) g))) → (n ≡ 0) × (told ≡ g ∷ depths (view ys) g ∷ [])
-  -- and what stands in the line of a live process between the first "/" and the newline leads to its group
-  pub line_leads : {xs told : List ℕ} {n : ℕ} (p : ℕ) → Kept xs → is_live (places (view xs) p) ≡ true
-      → Answered xs xs (walk 0 (body (after slash (membership_line (view xs) p)))) n
-      → told ≡ group_words (reply (view xs) (walk 0 (body (after slash (membership_line (view xs) p)))))
-      → (n ≡ 0) × (told ≡ process_group (view xs) p ∷ depths (view xs) (process_group (view xs) p) ∷ [])
-  -- as in that of a zombie whose group is live
-  pub zombie_leads : {xs told : List ℕ} {n : ℕ} (p g : ℕ) → Kept xs → zombies (view xs) p ≡ at g → lives (view xs) g ≡ true
-      → Answered xs xs (walk 0 (body (after slash (membership_line (view xs) p)))) n
-      → told ≡ group_words (reply (view xs) (walk 0 (body (after slash (membership_line (view xs) p)))))
-      → (n ≡ 0) × (told ≡ g ∷ depths (view xs) g ∷ [])
-  -- "at one moment different live groups have different paths", and a walk from the root, or from any group above, finds them
-  pub own_paths : {xs : List ℕ} → Kept xs → OwnPaths (view xs)
+      → n ≡ answer_number (first (before_taken (view xs) user parent new ++ after_taken (view xs) user parent new))
   -- "What a settings file shows can be written back by whoever may write it, and changes nothing": the first k bytes of what a
   -- read delivered, on the words that it read
   pub back : {xs : List ℕ} {n k : ℕ} {buffer bytes : List ℕ} (user g : ℕ) (s : Setting) → Kept xs

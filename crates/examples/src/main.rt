@@ -10,7 +10,6 @@ mod settings; // P6 to P8, and order 2
 mod devices; // io.max of order 1
 mod hierarchy; // P9, P10, depths, and the last numbers of order 4
 mod zombies; // order 5
-mod names; // order 6
 mod texts; // P11, whole replies, and bad words
 mod slips; // what is right where a slip looks right
 
@@ -54,8 +53,6 @@ fn ordered() {
     hierarchy::last_numbers();
     heading(b"Order 5: a process that has ended is a zombie until it is collected");
     zombies::until_collected();
-    heading(b"Order 6: groups have names, and a walk along a path of them finds a group");
-    names::paths();
 }
 
 // The slips that look right, but for the common ancestor, which is P10.
@@ -74,7 +71,6 @@ fn main() {
     say::text(
         b"A call, and after the colon its reply: 0 for success, else the number of the refusal.\n",
     );
-    say::text(b"A group whose name is not shown has its number for it.\n");
     marked();
     others();
     right();

@@ -3,20 +3,20 @@ ghost use Rattle.tree.specs.Kept.{Kept};
 
 use super::line_calls::{first_bad_word, write_procs, write_subtree_control};
 use super::reply_calls::{membership_into, read_into};
-use super::tree_calls::{admit, fresh_tree, make_named};
+use super::tree_calls::{admit, fresh_tree, make};
 use tree::layout::Tree;
 
 fn membership(tree: &Tree)
     requires { Kept tree.now }
 {
-    membership_into(tree, 5, &mut [b'.'; 15]);
+    membership_into(tree, 5, &mut [b'.'; 10]);
 }
 
 // Process 5 in the root, and then in group 7 under group 3.
 pub(crate) fn p11() {
     let mut tree = fresh_tree(1024);
-    make_named(&mut tree, 0, 0, 3, b"tape-3");
-    make_named(&mut tree, 0, 3, 7, b"b");
+    make(&mut tree, 0, 0, 3);
+    make(&mut tree, 0, 3, 7);
     admit(&mut tree, 5, 0);
     membership(&tree);
     write_procs(&mut tree, 0, 7, 5);

@@ -1,11 +1,10 @@
 // Groups, processes and pages: each call printed with its reply, on one line.
 ghost use Rattle.tree.specs.Kept.{Kept};
 
-use super::say::{answer, fill, line, text};
+use super::say::{answer, fill};
 use shootspiral::number::NO_GROUP;
 use shootspiral::tree_calls::{
-    ss_admit, ss_charge, ss_collect, ss_exit, ss_fork, ss_hand_over, ss_make, ss_release,
-    ss_remove, ss_walk,
+    ss_admit, ss_charge, ss_collect, ss_exit, ss_fork, ss_hand_over, ss_make, ss_release, ss_remove,
 };
 use tree::fresh::fresh;
 use tree::layout::Tree;
@@ -17,34 +16,17 @@ pub(crate) fn fresh_tree(pages: u64) -> Tree
     fresh(pages)
 }
 
-fn say_make(user: u32, parent: u64, group: u64) {
+pub(crate) fn make(tree: &mut Tree, user: u32, parent: u64, group: u64)
+    requires { Kept tree.old }
+    ensures { Kept tree.new }
+{
     fill(
         b"make user #, parent #, group #",
         user as u64,
         parent,
         group,
     );
-}
-
-// A group whose name is its number in decimal.
-pub(crate) fn make(tree: &mut Tree, user: u32, parent: u64, group: u64)
-    requires { Kept tree.old }
-    ensures { Kept tree.new }
-{
-    let mut digits = [0u8; 20];
-    let n = io::decimal(group, &mut digits);
-    say_make(user, parent, group);
-    answer(ss_make(tree, user, parent, group, &digits[..n]));
-}
-
-pub(crate) fn make_named(tree: &mut Tree, user: u32, parent: u64, group: u64, name: &[u8])
-    requires { Kept tree.old }
-    ensures { Kept tree.new }
-{
-    say_make(user, parent, group);
-    text(b", name ");
-    line(name);
-    answer(ss_make(tree, user, parent, group, name));
+    answer(ss_make(tree, user, parent, group));
 }
 
 pub(crate) fn remove(tree: &mut Tree, user: u32, group: u64)
@@ -66,27 +48,6 @@ pub(crate) fn hand_over(tree: &mut Tree, user: u32, group: u64, owner: u32)
         owner as u64,
     );
     answer(ss_hand_over(tree, user, group, owner));
-}
-
-// The end of a walk's line: the group reached, if there is one, and the names passed.
-fn reached(n: u32, told: [u64; 2]) {
-    let group = told[0];
-    let passed = told[1];
-    if group == NO_GROUP {
-        fill(b": #, passed #\n", n as u64, passed, 0);
-        return;
-    }
-    fill(b": #, group #, passed #\n", n as u64, group, passed);
-}
-
-pub(crate) fn walk(tree: &Tree, group: u64, path: &[u8])
-    requires { Kept tree.now }
-{
-    fill(b"walk group #, path ", group, 0, 0);
-    line(path);
-    let mut told = [0u64; 2];
-    let n = ss_walk(tree, group, path, &mut told);
-    reached(n, told);
 }
 
 pub(crate) fn admit(tree: &mut Tree, process: u64, user: u32)

@@ -8,7 +8,7 @@ use lib.ListN.{length, length-append}
 use borrow.Author.Tests.{eq-eqb, ne_eqb}
 use Rattle.model.specs.Functions.{All}
 use Rattle.model.specs.Hierarchy.{facts_of}
-use Rattle.model.specs.Text.{ended, joined, separated}
+use Rattle.model.specs.Text.{ended, joined, spaced}
 use Rattle.model.specs.Devices.{major_of, minor_of, DeviceLimits}
 use Rattle.model.specs.DeviceLines.{device_text, pair_texts}
 use Rattle.model.specs.Settings.{limit_text, shown_device, shown, value_text}
@@ -42,7 +42,7 @@ module _ (x : Slot) where
 
   pub slot-line : (major minor : ℕ) → x.device ≢ 0 → major ≡ major_of (x.device - 1) → minor ≡ minor_of (x.device - 1)
       → ended (device_text major minor ++ limits_text x) ≡ slot_text x
-  unfolding value_text separated pair_texts
+  unfolding value_text spaced pair_texts
   slot-line major minor nz a b = rw (a, b, ne_eqb x.device 0 nz)
 
   pub length-slot : (major minor : ℕ) → x.device ≢ 0 → major ≡ major_of (x.device - 1) → minor ≡ minor_of (x.device - 1)

@@ -11,42 +11,40 @@ use lib.ListN.{length, length-append}
 use borrow.Author.Tests.{eq-eqb, ne_eqb}
 use Rattle.model.specs.Sizes.{groups, processes, deepest}
 use Rattle.model.specs.Tree.{Tree, Remnant, lives, remains}
-use Rattle.model.specs.Zombies.{there, or_remnant, path_parents, path_depths, path_names, process_taken, last_group}
-use Rattle.model.specs.Text.{bytes, newline}
-use Rattle.model.specs.Paths.{good_name}
+use Rattle.model.specs.Zombies.{there, or_remnant, path_parents, path_depths, process_taken, last_group}
+use Rattle.model.specs.Text.{bytes, newline, decimal}
 use Rattle.model.specs.Files.{path, deleted_mark, membership_line}
 use Rattle.model.specs.WellFormed.{Sound}
 use Rattle.model.proofs.FunctionLaws.{split, whether, clash}
 use Rattle.model.proofs.LengthLaws.{path-root, path-up, length-path}
-use Rattle.model.proofs.NamedLaws.{named-there}
 use Rattle.model.proofs.ZombieLaws.{or-live, or-dead, last-there}
 use Rattle.model.proofs.ProcessLaws.{taken-out-of-range}
 use Rattle.tree.specs.Layout.{view}
 use Rattle.tree.specs.Kept.{Kept}
-use Rattle.files.specs.Texts.{longest_shown_path, longest_mark, place_path, ThereAt, HasPath}
+use Rattle.files.specs.Texts.{longest_path, longest_mark, place_path, ThereAt, HasPath}
 
-module _ {live : ℕ → Bool} {up depth : ℕ → ℕ} (s : Sound live up depth) (name : ℕ → List ℕ) where
+module _ {live : ℕ → Bool} {up depth : ℕ → ℕ} (s : Sound live up depth) where
   -- steps enough are enough
-  path-alike : (n m g : ℕ) → live g ≡ true → depth g ≤ n → depth g ≤ m → path up name n g ≡ path up name m g
+  path-alike : (n m g : ℕ) → live g ≡ true → depth g ≤ n → depth g ≤ m → path up n g ≡ path up m g
   path-alike zero zero g l a b = refl
   path-alike zero (suc m) g l a b =
       whether g 0
-      (λ e. path-root up name zero g e ∙ sym (path-root up name (suc m) g e))
+      (λ e. path-root up zero g e ∙ sym (path-root up (suc m) g e))
       (λ ne. absurd (omega (arith, s.deeper g l ne)))
   path-alike (suc n) zero g l a b =
       whether g 0
-      (λ e. path-root up name (suc n) g e ∙ sym (path-root up name zero g e))
+      (λ e. path-root up (suc n) g e ∙ sym (path-root up zero g e))
       (λ ne. absurd (omega (arith, s.deeper g l ne)))
   path-alike (suc n) (suc m) g l a b =
       whether g 0
-      (λ e. path-root up name (suc n) g e ∙ sym (path-root up name (suc m) g e))
+      (λ e. path-root up (suc n) g e ∙ sym (path-root up (suc m) g e))
       (λ ne.
-      path-up up name n g ne
-      ∙ ap (λ (w : List ℕ). w ++ (bytes "/" ++ name g))
+      path-up up n g ne
+      ∙ ap (λ (w : List ℕ). w ++ (bytes "/" ++ decimal g))
       (path-alike n m (up g) (s.above g l ne) (omega (arith, s.deeper g l ne)) (omega (arith, s.deeper g l ne)))
-      ∙ sym (path-up up name m g ne))
+      ∙ sym (path-up up m g ne))
 
-  path-depth : (g : ℕ) → live g ≡ true → path up name (depth g) g ≡ path up name deepest g
+  path-depth : (g : ℕ) → live g ≡ true → path up (depth g) g ≡ path up deepest g
   path-depth g l = path-alike (depth g) deepest g l (omega arith) (s.shallow g l)
 
   module _ (g deep p : ℕ) (l : live g ≡ true) (d : deep ≡ depth g) (nz : deep ≢ 0) (e : p ≡ up g) where
@@ -60,22 +58,22 @@ module _ {live : ℕ → Bool} {up depth : ℕ → ℕ} (s : Sound live up depth
     deep-above : deep - 1 ≡ depth p
     deep-above = rw e (omega (arith, s.deeper g l deep-below))
 
-    path-deep : path up name (deep - 1) p ++ (bytes "/" ++ name g) ≡ path up name deep g
+    path-deep : path up (deep - 1) p ++ (bytes "/" ++ decimal g) ≡ path up deep g
     path-deep = rw e (go deep nz)
       where
-        go : (n : ℕ) → n ≢ 0 → path up name (n - 1) (up g) ++ (bytes "/" ++ name g) ≡ path up name n g
+        go : (n : ℕ) → n ≢ 0 → path up (n - 1) (up g) ++ (bytes "/" ++ decimal g) ≡ path up n g
         go zero ne = absurd (ne refl)
-        go (suc n) ne = rw sub-one (sym (path-up up name n g deep-below))
+        go (suc n) ne = rw sub-one (sym (path-up up n g deep-below))
 
-    length-path-deep : length (path up name deep g) ≡ length (path up name (deep - 1) p) + suc (length (name g))
+    length-path-deep : length (path up deep g) ≡ length (path up (deep - 1) p) + suc (length (decimal g))
     length-path-deep = rw (← path-deep, length-append)
 
--- ---- parents, depths and names of groups that are there
+-- ---- parents and depths of groups that are there
 
-pub path-of-live : {A : Type 0} (t : Tree) (h : Remnant → A) (f : ℕ → A) (g : ℕ) (r : A) (b : Bool) → b ≡ lives t g → b ≡ true → r ≡ f g → r ≡ or_remnant h (lives t) f (remains t) g
+pub path-of-live : (t : Tree) (h : Remnant → ℕ) (f : ℕ → ℕ) (g r : ℕ) (b : Bool) → b ≡ lives t g → b ≡ true → r ≡ f g → r ≡ or_remnant h (lives t) f (remains t) g
 path-of-live t h f g r b e y q = q ∙ sym (or-live (lives t) (remains t) g h f (sym e ∙ y))
 
-pub path-of-removed : {A : Type 0} (t : Tree) (h : Remnant → A) (f : ℕ → A) (g : ℕ) (r : A) (b : Bool) → b ≡ lives t g → b ≡ false → r ≡ h (remains t g)
+pub path-of-removed : (t : Tree) (h : Remnant → ℕ) (f : ℕ → ℕ) (g r : ℕ) (b : Bool) → b ≡ lives t g → b ≡ false → r ≡ h (remains t g)
     → r ≡ or_remnant h (lives t) f (remains t) g
 path-of-removed t h f g r b e n q = q ∙ sym (or-dead (lives t) (remains t) g h f (sym e ∙ n))
 
@@ -89,20 +87,17 @@ module _ (xs : List ℕ) (g deep : ℕ) (out : List ℕ) (i : ℕ) (h : HasPath 
   sound : Sound (there (view xs)) (path_parents (view xs)) (path_depths (view xs))
   sound = h.group.kept.formed.past.paths
 
-  pub path-text : path (path_parents (view xs)) (path_names (view xs)) (deep - 1) p ++ (bytes "/" ++ path_names (view xs) g) ≡ path (path_parents (view xs)) (path_names (view xs)) deep g
-  path-text = path-deep sound (path_names (view xs)) g deep p h.group.there h.level nz e
+  pub path-text : path (path_parents (view xs)) (deep - 1) p ++ (bytes "/" ++ decimal g) ≡ path (path_parents (view xs)) deep g
+  path-text = path-deep sound g deep p h.group.there h.level nz e
 
-  pub path-fits : i + (length (path (path_parents (view xs)) (path_names (view xs)) (deep - 1) p) + suc (length (path_names (view xs) g))) ≤ length out
-  path-fits = omega (arith, length-path-deep sound (path_names (view xs)) g deep p h.group.there h.level nz e, h.room)
-
-  pub path-named : good_name (path_names (view xs) g) ≡ true
-  path-named = named-there (view xs) h.group.kept.formed g h.group.there (deep-below sound (path_names (view xs)) g deep p h.group.there h.level nz e)
+  pub path-fits : i + (length (path (path_parents (view xs)) (deep - 1) p) + suc (length (decimal g))) ≤ length out
+  path-fits = omega (arith, length-path-deep sound g deep p h.group.there h.level nz e, h.room)
 
   pub path-above : HasPath xs p (deep - 1) out i
   path-above =
       record {
-        group = record { kept = h.group.kept; there = deep-live sound (path_names (view xs)) g deep p h.group.there h.level nz e };
-        level = deep-above sound (path_names (view xs)) g deep p h.group.there h.level nz e;
+        group = record { kept = h.group.kept; there = deep-live sound g deep p h.group.there h.level nz e };
+        level = deep-above sound g deep p h.group.there h.level nz e;
         room = omega (arith, path-fits);
       }
 
@@ -112,30 +107,27 @@ module _ (xs : List ℕ) (g : ℕ) (k : ThereAt xs g) where
   s : Sound (there (view xs)) (path_parents (view xs)) (path_depths (view xs))
   s = k.kept.formed.past.paths
 
-  good : (h : ℕ) → there (view xs) h ≡ true → h ≢ 0 → good_name (path_names (view xs) h) ≡ true
-  good = named-there (view xs) k.kept.formed
-
   pub place-root : g ≡ 0 → bytes "/" ≡ place_path (view xs) g
   place-root e = rw (eq-eqb g 0 e)
 
   pub place-path : g ≢ 0 → (deep : ℕ) → deep ≡ path_depths (view xs) g
-      → path (path_parents (view xs)) (path_names (view xs)) deep g ≡ place_path (view xs) g
-  place-path ne deep d = rw (d, ne_eqb g 0 ne) (path-depth s (path_names (view xs)) g k.there)
+      → path (path_parents (view xs)) deep g ≡ place_path (view xs) g
+  place-path ne deep d = rw (d, ne_eqb g 0 ne) (path-depth s g k.there)
 
-  pub place-room : (out : List ℕ) (i deep : ℕ) → i + longest_shown_path ≤ length out → deep ≡ path_depths (view xs) g
+  pub place-room : (out : List ℕ) (i deep : ℕ) → i + longest_path ≤ length out → deep ≡ path_depths (view xs) g
       → HasPath xs g deep out i
   place-room out i deep h d =
       record {
         group = k;
         level = d;
-        room = omega (arith, length-path (path_parents (view xs)) (path_names (view xs)) s good deep g k.there, s.shallow g k.there);
+        room = omega (arith, length-path s deep g k.there, s.shallow g k.there);
       }
 
-  pub length-place : length (place_path (view xs) g) ≤ longest_shown_path
+  pub length-place : length (place_path (view xs) g) ≤ longest_path
   length-place =
       whether g 0
       (λ e. rw (eq-eqb g 0 e) (omega arith))
-      (λ ne. rw (ne_eqb g 0 ne) (length-path (path_parents (view xs)) (path_names (view xs)) s good deepest g k.there))
+      (λ ne. rw (ne_eqb g 0 ne) (length-path s deepest g k.there))
 
 -- ---- its mark
 

@@ -1,9 +1,9 @@
 -- What the writers of a text's parts ask and write: document 01, "What a reader sees". Assumes nothing.
-use Rattle.std.specs.Prelude.{ℕ, suc, ◌+◌, ◌*◌, ◌≤◌, Bool, true, List, [], ◌∷◌, ◌++◌, ◌≢◌, ◌≡◌, eqb, length}
+use Rattle.std.specs.Prelude.{ℕ, ◌+◌, ◌*◌, ◌≤◌, Bool, true, List, [], ◌∷◌, ◌++◌, ◌≢◌, ◌≡◌, eqb, length}
 use Rattle.model.specs.Functions.{pick}
-use Rattle.model.specs.Sizes.{deepest, longest_name, longest_membership, most_devices, longest_shown}
+use Rattle.model.specs.Sizes.{deepest, longest_membership, most_devices, longest_shown}
 use Rattle.model.specs.Tree.{Tree}
-use Rattle.model.specs.Zombies.{there, path_parents, path_depths, path_names, process_taken}
+use Rattle.model.specs.Zombies.{there, path_parents, path_depths, process_taken}
 use Rattle.model.specs.Text.{bytes, newline, space, ended}
 use Rattle.model.specs.Settings.{limit_text, shown_device, value_text}
 use Rattle.model.specs.Hierarchy.{facts_of}
@@ -26,9 +26,9 @@ longest_devices = most_devices * longest_shown
 abbrev pub longest_other : ℕ
 longest_other = 128
 
--- no path in a membership line is longer: a "/" and a name for each group on it
-abbrev pub longest_shown_path : ℕ
-longest_shown_path = deepest * suc longest_name
+-- no path is longer: three digits and a "/" for each group on it
+abbrev pub longest_path : ℕ
+longest_path = deepest * 4
 
 -- nor is the mark of a removed group
 abbrev pub longest_mark : ℕ
@@ -57,15 +57,11 @@ pub record ThereAt (xs : List ℕ) (g : ℕ) : Type 0 where
   pub kept : Kept xs
   pub there : there (view xs) g ≡ true
 
--- its path, where it is so deep
-abbrev pub path_to : Tree → ℕ → ℕ → List ℕ
-path_to t deep g = path (path_parents t) (path_names t) deep g
-
 -- such a group so deep, and room for its path
 pub record HasPath (xs : List ℕ) (g deep : ℕ) (out : List ℕ) (at : ℕ) : Type 0 where
   pub group : ThereAt xs g
   pub level : deep ≡ path_depths (view xs) g
-  pub room : at + length (path_to (view xs) deep g) ≤ length out
+  pub room : at + length (path (path_parents (view xs)) deep g) ≤ length out
 
 -- a live process or a zombie, and room for its membership line
 pub record HasLine (xs : List ℕ) (p : ℕ) (out : List ℕ) : Type 0 where
@@ -75,7 +71,7 @@ pub record HasLine (xs : List ℕ) (p : ℕ) (out : List ℕ) : Type 0 where
 
 -- the path as a membership line shows it
 abbrev pub place_path : Tree → ℕ → List ℕ
-place_path t g = pick (eqb g 0) (bytes "/") (path_to t deepest g)
+place_path t g = pick (eqb g 0) (bytes "/") (path (path_parents t) deepest g)
 
 -- what a name adds to a list that has come to a place: nothing if it is not listed, else a space before all but the first
 abbrev pub name_after : ℕ → Bool → List ℕ → List ℕ

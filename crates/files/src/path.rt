@@ -1,23 +1,20 @@
 // The path of a group that is live or was removed, and the membership line of a process that is live or a zombie.
 ghost use Rattle.std.specs.Prelude.{◌+◌, ◌≤◌, ◌<◌, ◌≡◌, length};
 ghost use Rattle.model.specs.Sizes.{groups};
-ghost use Rattle.model.specs.Zombies.{path_parents, path_depths, path_names};
-ghost use Rattle.model.specs.Files.{deleted_mark, membership_line};
+ghost use Rattle.model.specs.Zombies.{path_parents, path_depths};
+ghost use Rattle.model.specs.Files.{path, deleted_mark, membership_line};
 ghost use Rattle.text.specs.Write.{Appended};
 ghost use Rattle.tree.specs.Layout.{view};
-ghost use Rattle.names.specs.Packed.{name_of};
-ghost use Rattle.files.specs.Texts.{longest_shown_path, longest_mark, path_to, place_path, ThereAt, HasPath, HasLine};
+ghost use Rattle.files.specs.Texts.{longest_path, longest_mark, place_path, ThereAt, HasPath, HasLine};
 
 use model::{GroupId, ProcessId};
-use names::packed::{Name, put_name};
-use text::write::{put_byte, put_text};
+use text::write::{put_byte, put_number, put_text};
 use tree::group::{depth, is_live, parent};
 use tree::layout::Tree;
-use tree::name::{name, removed_name};
 use tree::process::last_group;
 use tree::removed::{removed_depth, removed_parent};
 
-// The parent, the depth and the name of a group, or of what is left of it.
+// The parent and the depth of a group, or of what is left of it.
 fn path_parent(t: &Tree, g: GroupId) -> GroupId
     requires { g.0 < groups }
     ensures { result.0 ≡ path_parents (view t.now) g.0 }
@@ -38,32 +35,22 @@ fn path_depth(t: &Tree, g: GroupId) -> u64
     removed_depth(t, g)
 }
 
-fn path_name(t: &Tree, g: GroupId) -> Name
-    requires { g.0 < groups }
-    ensures { name_of result ≡ path_names (view t.now) g.0 }
-{
-    if is_live(t, g) {
-        return name(t, g);
-    }
-    removed_name(t, g)
-}
-
-// The path of a group so deep: the path of its parent, and then its own name.
+// The path of a group so deep: the path of its parent, and then its own number.
 fn put_path(t: &Tree, g: GroupId, deep: u64, out: &mut [u8], at: usize) -> usize
     requires { HasPath t.now g.0 deep out.old at }
-    ensures { Appended out.old at (path_to (view t.now) deep g.0) out.new result }
+    ensures { Appended out.old at (path (path_parents (view t.now)) deep g.0) out.new result }
 {
     if deep == 0 {
         return at;
     }
     let above = put_path(t, path_parent(t, g), deep - 1, out, at);
     let slash = put_byte(out, above, b'/');
-    put_name(out, slash, path_name(t, g))
+    put_number(out, slash, g.0)
 }
 
 // The path that a membership line shows: of the root it is "/".
 fn put_place(t: &Tree, g: GroupId, out: &mut [u8], at: usize) -> usize
-    requires { ThereAt t.now g.0 × (at + longest_shown_path ≤ length out.old) }
+    requires { ThereAt t.now g.0 × (at + longest_path ≤ length out.old) }
     ensures { Appended out.old at (place_path (view t.now) g.0) out.new result }
 {
     if g.0 == 0 {

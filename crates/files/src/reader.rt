@@ -36,8 +36,8 @@ const LONGEST_DEVICES: usize = MOST_DEVICES * LONGEST_SHOWN;
 
 const LONGEST_OTHER: usize = 128;
 
-// The longest membership line: "0::", for each level a name of 31 bytes at most after "/", " (deleted)", and a newline.
-const LONGEST_MEMBERSHIP: usize = DEEPEST as usize * 32 + 14;
+// The longest membership line: "0::", for each level a number of three digits at most after "/", " (deleted)", and a newline.
+const LONGEST_MEMBERSHIP: usize = DEEPEST as usize * 4 + 14;
 
 // Whether a group has the file.
 fn is_present(t: &Tree, g: GroupId, file: File) -> bool

@@ -2,4 +2,3 @@ pub mod ChildLaws
 pub mod MakeLaws
 pub mod RemoveLaws
 pub mod HandOverLaws
-pub mod WalkLaws

@@ -14,7 +14,6 @@ use Rattle.model.specs.Checks.{Pass}
 use Rattle.model.specs.Tree.{Tree, Core, Group, no_group, new_core, new_group, at_group, cores, lives, depths, places}
 use Rattle.model.specs.Hierarchy.{amount, facts_of}
 use Rattle.model.specs.Zombies.{group_taken}
-use Rattle.model.specs.Paths.{good_name}
 use Rattle.model.specs.Calls.{make, checks, verdict}
 use Rattle.model.specs.Effects.{effect}
 use Rattle.model.specs.declared.Resource.{Resource}
@@ -37,20 +36,18 @@ use Rattle.tree.proofs.CallLaws.{applied}
 use Rattle.groups.proofs.ChildLaws.{children-apart, members-apart, zombies-apart}
 
 -- what the checks say where all pass
-pub record Makeable (t : Tree) (parent new : ℕ) (name : List ℕ) : Type 0 where
-  pub good : good_name name ≡ true
+pub record Makeable (t : Tree) (parent new : ℕ) : Type 0 where
   pub above : parent < groups
   pub home : lives t parent ≡ true
   pub low : new < groups
   pub free : group_taken t new ≡ false
   pub shallow : depths t parent < deepest
 
-pub makeable : (t : Tree) (user parent new : ℕ) (name : List ℕ) → verdict t (make user parent new name) ≡ Done → Makeable t parent new name
+pub makeable : (t : Tree) (user parent new : ℕ) → verdict t (make user parent new) ≡ Done → Makeable t parent new
 unfolding checks Pass
-makeable t user parent new name v =
-    let k : Pass (checks (facts_of t) (make user parent new name)) = passed t (make user parent new name) v in
+makeable t user parent new v =
+    let k : Pass (checks (facts_of t) (make user parent new)) = passed t (make user parent new) v in
     record {
-      good = (search);
       above = omega (arith, leb-false);
       home = (search);
       low = omega (arith, leb-false);
@@ -58,9 +55,9 @@ makeable t user parent new name v =
       shallow = omega (arith, leb-false);
     }
 
-module _ (xs : List ℕ) (k : Kept xs) (user parent new : ℕ) (name : List ℕ) (v : verdict (view xs) (make user parent new name) ≡ Done) where
-  m : Makeable (view xs) parent new name
-  m = makeable (view xs) user parent new name v
+module _ (xs : List ℕ) (k : Kept xs) (user parent new : ℕ) (v : verdict (view xs) (make user parent new) ≡ Done) where
+  m : Makeable (view xs) parent new
+  m = makeable (view xs) user parent new v
 
   dead : lives (view xs) new ≡ false
   dead = (or-false (lives (view xs) new) _ m.free).0
@@ -69,10 +66,10 @@ module _ (xs : List ℕ) (k : Kept xs) (user parent new : ℕ) (name : List ℕ)
   s = cores (view xs)
 
   abbrev made : ℕ → Tree
-  made depth = at_group (view xs) new (new_group parent depth name user)
+  made depth = at_group (view xs) new (new_group parent depth user)
 
   cores-after : (depth : ℕ) → cores (made depth) ≡ upd s new (new_core parent)
-  cores-after depth = upd-map (λ (x : Group). x.core) (view xs).group new (new_group parent depth name user)
+  cores-after depth = upd-map (λ (x : Group). x.core) (view xs).group new (new_group parent depth user)
 
   amount-same : (depth : ℕ) (r : Resource) (g : ℕ) → amount (cores (made depth)) (places (view xs)) r g ≡ amount s (places (view xs)) r g
   amount-same depth r g =
@@ -101,14 +98,14 @@ module _ (xs : List ℕ) (k : Kept xs) (user parent new : ℕ) (name : List ℕ)
   pub new-blank : (zs : List ℕ) → AdjustedAt xs zs Children parent 1 0 → (view zs).group new ≡ no_group
   new-blank zs j = ap (λ (t : Tree). t.group new) j.tree ∙ k.formed.blank.free_group new dead
 
-  pub applied-make : (zs ys : List ℕ) (d : ℕ) (n : List ℕ) → d ≡ depths (view xs) parent → n ≡ name → AdjustedAt xs zs Children parent 1 0
-      → Wrote zs ys (at_group (view zs) new (new_group parent (d + 1) n user)) → Applied xs ys (make user parent new name)
+  pub applied-make : (zs ys : List ℕ) (d : ℕ) → d ≡ depths (view xs) parent → AdjustedAt xs zs Children parent 1 0
+      → Wrote zs ys (at_group (view zs) new (new_group parent (d + 1) user)) → Applied xs ys (make user parent new)
   unfolding effect
-  applied-make zs ys d n e f j p =
+  applied-make zs ys d e j p =
       let depth : ℕ = suc (depths (view xs) parent) in
       let w : Wrote zs ys (made depth) =
-      subst (λ (t : Tree). Wrote zs ys (at_group t new (new_group parent depth name user))) j.tree (rw (e, f, add-one) at p) in
-      applied xs k (make user parent new name) v ys
+      subst (λ (t : Tree). Wrote zs ys (at_group t new (new_group parent depth user))) j.tree (rw (e, add-one) at p) in
+      applied xs k (make user parent new) v ys
       (record { long = w.long; tree = w.tree; sums = λ c a. w.sums c a ∙ counted depth c a; spare = w.spare (j.spare k.spare) })
     where
       counted : (depth : ℕ) (c : Counter) (a : ℕ) → sum_in zs c a ≡ count_in (made depth) c a
@@ -117,4 +114,4 @@ module _ (xs : List ℕ) (k : Kept xs) (user parent new : ℕ) (name : List ℕ)
       counted depth Members a = j.other Members members-apart a ∙ k.sums Members a
       counted depth Zombies a =
           j.other Zombies zombies-apart a ∙ k.sums Zombies a
-          ∙ sym (zombies-after-make (view xs) k.formed (new_group parent depth name user) new m.free a)
+          ∙ sym (zombies-after-make (view xs) k.formed (new_group parent depth user) new m.free a)

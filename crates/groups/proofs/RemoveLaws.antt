@@ -12,7 +12,7 @@ use borrow.Author.Tests.{eqb-false, eq-eqb, ne_eqb}
 use Rattle.model.specs.Functions.{upd, weigh}
 use Rattle.model.specs.Sizes.{groups}
 use Rattle.model.specs.Checks.{Pass}
-use Rattle.model.specs.Tree.{Tree, Core, Group, at, Remnant, no_remnant, remnant, no_core, no_group, at_group, with_past, zombies, remains, cores, lives, parents, depths, names, places}
+use Rattle.model.specs.Tree.{Tree, Core, Group, at, Remnant, no_remnant, remnant, no_core, no_group, at_group, with_past, zombies, remains, cores, lives, parents, depths, places}
 use Rattle.model.specs.Hierarchy.{amount, facts_of}
 use Rattle.model.specs.Zombies.{path_parents, on_path}
 use Rattle.model.specs.Calls.{remove, checks, verdict}
@@ -75,10 +75,9 @@ module _ (xs : List ℕ) (k : Kept xs) (user g : ℕ) (v : verdict (view xs) (re
   pub group-kept : KeptAt xs g
   group-kept = record { kept = k; live = here.live }
 
-  -- its depth fits the word of what is left, and is not 0
-  pub left-fits : (deep : ℕ) → deep ≡ depths (view xs) g → (deep < groups) × (deep ≢ 0)
-  left-fits deep e =
-      (omega (arith, e, k.formed.sound.shallow g here.live), (λ z. omega (arith, e, k.formed.sound.deeper g here.live here.nonroot)))
+  -- its depth fits the word of what is left
+  pub left-fits : (deep : ℕ) → deep ≡ depths (view xs) g → deep < groups
+  left-fits deep e = omega (arith, e, k.formed.sound.shallow g here.live)
 
   -- The parent, found by the code.
   module _ (p : ℕ) (a : p ≡ parents (view xs) g) where
@@ -182,8 +181,8 @@ module _ (xs : List ℕ) (k : Kept xs) (user g : ℕ) (v : verdict (view xs) (re
     on-path : on_path (view xs) g ≡ not (eqb x 0)
     on-path = sym (path-counted (path_parents (view xs)) (zombies (view xs)) g) ∙ ap (λ y. not (eqb y 0)) (sym e)
 
-    left_as : (r : Remnant) → kept_if (not (eqb x 0)) (remnant (parents (view xs) g) (depths (view xs) g) (names (view xs) g)) ≡ r → leaving r ≡ removed (view xs) g
-    left_as r f = ap leaving (sym f ∙ ap (λ t. kept_if t (remnant (parents (view xs) g) (depths (view xs) g) (names (view xs) g))) (sym on-path))
+    left_as : (r : Remnant) → kept_if (not (eqb x 0)) (remnant (parents (view xs) g) (depths (view xs) g)) ≡ r → leaving r ≡ removed (view xs) g
+    left_as r f = ap leaving (sym f ∙ ap (λ t. kept_if t (remnant (parents (view xs) g) (depths (view xs) g))) (sym on-path))
 
     pub applied-blank : x ≡ 0 → Applied xs ys (remove user g)
     unfolding effect
@@ -211,16 +210,15 @@ module _ (xs : List ℕ) (k : Kept xs) (user g : ℕ) (v : verdict (view xs) (re
           enough = omega arith;
         }
 
-    pub applied-left : x ≢ 0 → (vs ws : List ℕ) (deep : ℕ) (name : List ℕ) → deep ≡ depths (view xs) g → name ≡ names (view xs) g
-        → Wrote ys vs (remnant_set (view ys) g (remnant p deep name))
+    pub applied-left : x ≢ 0 → (vs ws : List ℕ) (deep : ℕ) → deep ≡ depths (view xs) g → Wrote ys vs (remnant_set (view ys) g (remnant p deep))
         → AdjustedAt vs ws Zombies g x 0 → Applied xs ws (remove user g)
     unfolding effect
-    applied-left nz vs ws deep name f n l h =
-        let r : Remnant = remnant (parents (view xs) g) (depths (view xs) g) (names (view xs) g) in
+    applied-left nz vs ws deep f l h =
+        let r : Remnant = remnant (parents (view xs) g) (depths (view xs) g) in
         let left : view vs ≡ leaving r =
-        l.tree ∙ ap (λ (t : Tree). remnant_set t g (remnant p deep name)) bare
+        l.tree ∙ ap (λ (t : Tree). remnant_set t g (remnant p deep)) bare
         ∙ ap (λ (t : ℕ → Remnant). with_past (record { zombie = zombies (view xs); remains = t }) (leaving no_remnant))
-        (upd-again (remains (view xs)) g no_remnant (remnant p deep name) ∙ ap (upd (remains (view xs)) g) (λ i. remnant (a i) (f i) (n i))) in
+        (upd-again (remains (view xs)) g no_remnant (remnant p deep) ∙ ap (upd (remains (view xs)) g) (λ i. remnant (a i) (f i))) in
         applied xs k (remove user g) v ws
         (record {
           long = h.long;

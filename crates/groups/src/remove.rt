@@ -9,7 +9,6 @@ use model::{Answer, Errno, GroupId};
 use tree::counter::{adjust, count};
 use tree::group::{clear_group, depth, is_live, own, parent, set_own};
 use tree::layout::{GROUPS, Tree};
-use tree::name::name;
 use tree::removed::set_removed;
 use tree::rule::{has_child, has_process, may_write};
 use tree::sum::Counter;
@@ -53,7 +52,6 @@ pub fn remove(tree: &mut Tree, user: u32, group: GroupId) -> Answer
     };
     let above = parent(tree, group);
     let deep = depth(tree, group);
-    let called = name(tree, group);
     let waiting = count(tree, group, Counter::Zombies);
     let held = own(tree, above);
     let pages = held + own(tree, group);
@@ -63,7 +61,7 @@ pub fn remove(tree: &mut Tree, user: u32, group: GroupId) -> Answer
     if waiting == 0 {
         return Answer::Done;
     }
-    set_removed(tree, group, above, deep, called);
+    set_removed(tree, group, above, deep);
     adjust(tree, group, Counter::Zombies, waiting, 0);
     Answer::Done
 }

@@ -17,10 +17,9 @@ use Rattle.model.specs.Control.{asked, is_dropped}
 use Rattle.model.specs.Settings.{assign, piece, AtDefault, reset}
 use Rattle.model.specs.Rooms.{Room, room, full, room_for, is_full, shortage}
 use Rattle.model.specs.Rules.{process_group, line_process, leaving}
-use Rattle.model.specs.Paths.{Walk, walk_along, is_reached}
-use Rattle.model.specs.Calls.{Call, line_value, charge_checks, fork_checks, checks, verdict, walk_checks}
+use Rattle.model.specs.Calls.{Call, line_value, charge_checks, fork_checks, checks, verdict}
 use Rattle.model.specs.Effects.{new_set, controlled, written, effect, step, fresh, run}
-use Rattle.model.specs.Replies.{room_answer, charge_answer, fork_answer, room_number, read_answer, read_number, Asks, for_charge, for_fork, asked_answer, Sort, plain, asking, delivering, sort_of, sort_reply, reply, reply_by, walk_answer, walk_number, walk_ends, walking}
+use Rattle.model.specs.Replies.{room_answer, charge_answer, fork_answer, room_number, read_answer, read_number, Asks, for_charge, for_fork, asked_answer, Sort, plain, asking, delivering, sort_of, sort_reply, reply, reply_by}
 use Rattle.model.specs.Book.{Book, limit_entered, entry_of, enter_entry, limits_after, child_after, enter_value, enter, book_step, fresh_book, book_of, fed}
 use Rattle.model.specs.WellFormed.{WellFormed}
 use Rattle.model.specs.Lists.{log, book_after}
@@ -43,8 +42,7 @@ use Rattle.model.proofs.PieceLaws.{piece-after-reset}
 use Rattle.model.proofs.RuleLaws.{on-other}
 use Rattle.model.proofs.Preservation.{cores-after-remove}
 use Rattle.model.proofs.Changes.{WritesSetting}
-use Rattle.model.proofs.ChildLaws.{child-live, child-parent, child-not-root}
-use Rattle.model.proofs.ControlPreservation.{reset-child, reset-other}
+use Rattle.model.proofs.ControlPreservation.{child-live, child-parent, child-not-root, reset-child, reset-other}
 
 -- The number of a reply is that of the verdict.
 read_number_lem : (a : Answer) (text : List ℕ) → read_number (read_answer a text) ≡ answer_number a
@@ -68,17 +66,6 @@ asked-number t (for_charge {p = p} {n = n}) = room-number Pages (charge_checks t
 asked-number t (for_fork {p = p} {new = new}) =
     room-number Processes (fork_checks t p new) (room_for (facts_of t) Processes 1 (process_group t p))
 
-walk-number : (t : Tree) (g : ℕ) (path : List ℕ) → walk_number (walk_answer t g path) ≡ answer_number (verdict t (Call.walk g path))
-unfolding walk_answer verdict checks first
-walk-number t g path =
-    go (first (walk_checks t g path)) (walk_along t g path)
-    ∙ ap answer_number (sym (first-append (walk_checks t g path) (Check.need (is_reached (walk_along t g path)) Enoent ∷ [])))
-  where
-    go : (a : Answer) (x : Walk) → walk_number (walk_ends a x) ≡ answer_number (and_then a (first (Check.need (is_reached x) Enoent ∷ [])))
-    go Done (Walk.reached h k) = refl
-    go Done (Walk.lost k) = refl
-    go (Refused e) x = refl
-
 pub reply-number : (t : Tree) (c : Call) → (reply t c).number ≡ answer_number (verdict t c)
 unfolding reply reply_by verdict
 reply-number t c = go (sort_of c)
@@ -86,7 +73,6 @@ reply-number t c = go (sort_of c)
     go : (s : Sort c) → (sort_reply (facts_of t) s).number ≡ answer_number (verdict t c)
     go plain = refl
     go (asking k) = asked-number t k
-    go (walking {g = g} {path = path} e) = walk-number t g path ∙ ap (λ d. answer_number (verdict t d)) (sym e)
     go (delivering text buffer) = read_number_lem (verdict t c) _
 
 pub number-accepted : (t : Tree) (c : Call) → verdict t c ≡ Done → eqb (reply t c).number 0 ≡ true
@@ -212,7 +198,7 @@ places-put t p v = upd-map (λ x. x.place) t.process p v
 
 pub booked : (t : Tree) (c : Call) → WellFormed t → Booked t c
 unfolding effect enter
-booked t (Call.make user parent new name) w =
+booked t (Call.make user parent new) w =
     quietly t _ (λ _. refl) (λ _. record { machine = refl; groups = cores-put t new _; places = refl })
 booked t (Call.remove user g) w =
     quietly t _ (λ _. refl) (λ _. record { machine = refl; groups = cores-after-remove t g; places = refl })
@@ -237,7 +223,6 @@ booked t (Call.charge p n) w =
 booked t (Call.release g n) w = quietly t _ (λ _. refl) (λ _. record { machine = refl; groups = cores-put t g _; places = refl })
 booked t (Call.read g file buffer) w = quietly t _ (λ _. refl) (λ _. record { machine = refl; groups = refl; places = refl })
 booked t (Call.membership p buffer) w = quietly t _ (λ _. refl) (λ _. record { machine = refl; groups = refl; places = refl })
-booked t (Call.walk g path) w = quietly t _ (λ _. refl) (λ _. record { machine = refl; groups = refl; places = refl })
 
 pub same-enter : (t : Tree) (b : Book) (c : Call) → WellFormed t → Same t b → Same (effect t c) (enter b c)
 same-enter t b c w s = subst (λ (x : Book). Same (effect t c) (enter x c)) (book-with-same t b s) ((booked t c w).same b.mark)

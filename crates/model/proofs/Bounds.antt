@@ -133,16 +133,15 @@ module _ (t : Tree) (w : WellFormed t) where
             (usage-altered t w g v k a);
       }
 
-  limited-made : (user parent new : ℕ) (name : List ℕ) → Making t user parent new name
-      → Limited t (at_group t new (new_group parent (suc (depths t parent)) name user))
-  limited-made user parent new name k =
+  limited-made : (user parent new : ℕ) → Making t user parent new → Limited t (at_group t new (new_group parent (suc (depths t parent)) user))
+  limited-made user parent new k =
       record {
         kept = λ a l.
             upd-all (λ j x. x.core.limit Pages ≡ Figure l → (t.group j).core.limit Pages ≡ Figure l) t.group new _
             (λ e. no-figure NoLimit l refl e) (λ j _ e. e) a;
         bound = λ a l e. inl (omega (
           arith,
-          ap (λ s. usage s a) (upd-map (λ x. x.core) t.group new (new_group parent (suc (depths t parent)) name user)),
+          ap (λ s. usage s a) (upd-map (λ x. x.core) t.group new (new_group parent (suc (depths t parent)) user)),
           amount-after-make (cores t) (places t) (depths t) w.sound w.placed Pages new parent a (made-dead t w k),
         ));
       }
@@ -181,7 +180,7 @@ module _ (t : Tree) (w : WellFormed t) where
   limited-change (placed p v k l) = inl (record { kept = λ a l e. e; bound = λ a l e. inl (omega arith) })
   limited-change {c} (altered g v k) =
       ⊎_elim (λ same. inl (limited-altered g v k same)) (λ (s : WritesSetting c). inr s) k.limit
-  limited-change (made user parent new name f k) = inl (limited-made user parent new name k)
+  limited-change (made user parent new f k) = inl (limited-made user parent new k)
   limited-change (ended p k l) = inl (record { kept = λ a m e. e; bound = λ a m e. inl (omega arith) })
   limited-change (collected p f z) = inl (record { kept = λ a l e. e; bound = λ a l e. inl (omega arith) })
   limited-change (removal user g f k) = inl (limited-removed g k)

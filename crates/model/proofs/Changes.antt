@@ -6,13 +6,11 @@ use native.Mathlib.Omega.{arith}
 use mathlib.Core.Bool.{true, false}
 use mathlib.Core.List.{List}
 use mathlib.Core.Logic.{◌≢◌, ◌⊎◌, inl, inr, ⊎_elim}
-use mathlib.Core.Option.{none}
 use mathlib.Core.Path.{◌≡◌, ap, sym, ◌∙◌}
 use Rattle.model.specs.Sizes.{groups, processes, deepest}
 use Rattle.model.specs.Tree.{Tree, Group, Process, nowhere, at, is_live, no_process, new_group, at_group, at_process, with_past, cores, lives, parents, depths, owners, sets, places, zombies, no_remnant, remains}
 use Rattle.model.specs.Hierarchy.{inside, headcount, usage}
 use Rattle.model.specs.Zombies.{is_zombie, group_taken}
-use Rattle.model.specs.Paths.{good_name, child_named}
 use Rattle.model.specs.Rooms.{over, acting_limit}
 use Rattle.model.specs.Rules.{may_write, line_process, leaving}
 use Rattle.model.specs.Calls.{Call}
@@ -110,17 +108,15 @@ usage-altered t w {c} g v k a =
     above i (went x f e) h = inl (omega arith)
 
 -- a group that is made with a free number, under one that its maker may write
-pub record Making (t : Tree) (user parent new : ℕ) (name : List ℕ) : Type 0 where
+pub record Making (t : Tree) (user parent new : ℕ) : Type 0 where
   pub above : lives t parent ≡ true
   pub free : group_taken t new ≡ false
   pub low : new < groups
-  pub good : good_name name ≡ true
-  pub unnamed : child_named t parent name ≡ none
   pub shallow : depths t parent < deepest
   pub may : may_write t user parent ≡ true
 
 -- such a number is not live, and nothing is left of a group with it
-module _ (t : Tree) (w : WellFormed t) {user parent new : ℕ} {name : List ℕ} (k : Making t user parent new name) where
+module _ (t : Tree) (w : WellFormed t) {user parent new : ℕ} (k : Making t user parent new) where
   pub made-dead : lives t new ≡ false
   made-dead = (or-false (lives t new) _ k.free).0
 
@@ -138,8 +134,8 @@ pub data Change (t : Tree) (c : Call) : Tree → Type 0 where
   nothing : flow c ≡ Flow.none → Change t c t
   placed : (p : ℕ) (v : Process) → Placing t c p v → is_live v.place ≡ true → Change t c (at_process t p v)
   altered : (g : ℕ) (v : Group) → Altering t c g v → Change t c (at_group t g v)
-  made : (user parent new : ℕ) (name : List ℕ) → flow c ≡ Flow.none → Making t user parent new name
-      → Change t c (at_group t new (new_group parent (suc (depths t parent)) name user))
+  made : (user parent new : ℕ) → flow c ≡ Flow.none → Making t user parent new
+      → Change t c (at_group t new (new_group parent (suc (depths t parent)) user))
   ended : (p : ℕ) → Placing t c p no_process → is_live (places t p) ≡ true → Change t c (with_past (past_exit t p) (at_process t p no_process))
   collected : (p : ℕ) → c ≡ Call.collect p → is_zombie (zombies t p) ≡ true → Change t c (with_past (past_collect t p) t)
   removal : (user g : ℕ) → c ≡ Call.remove user g → Removing t g → Change t c (removed t g)

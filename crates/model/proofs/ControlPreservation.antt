@@ -1,12 +1,12 @@
 -- A well-formed tree stays well formed when a control set is written and its children's settings are reset. Assumes nothing.
 use Prim.Native.Nat.{ℕ}
-use mathlib.Core.Bool.{Bool, true, false, ◌&&◌}
+use mathlib.Core.Bool.{Bool, true, false, not, ◌&&◌}
 use mathlib.Core.Logic.{◌≢◌}
 use mathlib.Core.Path.{◌≡◌, refl, ap, sym, ◌∙◌, fun_ext}
 use lib.Dec.{eqb}
-use borrow.Author.Tests.{ne_eqb}
+use borrow.Author.Tests.{eqb-true, eqb-false, eq-eqb, ne_eqb, not-true}
 use Rattle.model.specs.Functions.{upd}
-use Rattle.model.specs.Tree.{Tree, Core, Group, at, Controls, Settings, settings_of, with_settings, with_set, cores, lives, parents, names, owners, sets, settings_at, places}
+use Rattle.model.specs.Tree.{Tree, Core, Group, at, Controls, Settings, settings_of, with_settings, with_set, cores, lives, parents, owners, sets, settings_at, places}
 use Rattle.model.specs.Hierarchy.{child_of, own_pages, amount}
 use Rattle.model.specs.Settings.{AtDefault, reset}
 use Rattle.model.specs.WellFormed.{Defaults, WellFormed}
@@ -14,14 +14,27 @@ use Rattle.model.specs.Effects.{reset_child, controlled}
 use Rattle.model.specs.declared.Resource.{Resource}
 use Rattle.model.specs.declared.Resource.TheVariants.{Pages}
 use Rattle.model.specs.declared.Controller.{Controller}
-use Rattle.model.proofs.FunctionLaws.{split, whether, clash, upd_same, upd_other, upd-map, upd-keeps}
+use Rattle.model.proofs.FunctionLaws.{split, whether, clash, and_left, and_right, upd_same, upd_other, upd-map, upd-keeps}
 use Rattle.model.proofs.AmountLaws.{amount-same}
-use Rattle.model.proofs.ChildLaws.{child-of, child-live}
-use Rattle.model.proofs.NamedLaws.{named-eq}
 use Rattle.model.proofs.RuleLaws.{sound-eq, placed-eq, top-down-eq, defaults-eq, ranges-eq, quiet-eq, top-down-after-control, quiet-after-set, on-other}
 use Rattle.model.proofs.Remembering.{remembered-eq}
 use Rattle.model.proofs.PieceLaws.{default-of-reset, default-after-reset}
 use Rattle.model.proofs.AllowedLaws.{allowed-after-reset}
+
+-- A live child is live, is not the root, and has g for its parent.
+module _ (g k : ℕ) (c : Core) where
+  pub child-of : c.live ≡ true → k ≢ 0 → c.parent ≡ g → child_of g k c ≡ true
+  child-of l nz e = rw (l, ne_eqb k 0 nz) (eq-eqb c.parent g e)
+
+  module _ (h : child_of g k c ≡ true) where
+    pub child-live : c.live ≡ true
+    child-live = and_left c.live _ h
+
+    pub child-not-root : k ≢ 0
+    child-not-root = eqb-false k 0 (not-true (eqb k 0) (and_left (not (eqb k 0)) _ (and_right c.live _ h)))
+
+    pub child-parent : c.parent ≡ g
+    child-parent = eqb-true c.parent g (and_right (not (eqb k 0)) _ (and_right c.live _ h))
 
 -- Reset is for children only.
 module _ (t : Tree) (g : ℕ) (gone : Controls) (k : ℕ) (v : Group) where
@@ -55,9 +68,6 @@ module _ (t : Tree) (g : ℕ) (set gone : Controls) where
 
   pub parent-after-control : parents (controlled t g set gone) ≡ parents t
   parent-after-control = part-kept (λ x. x.core.parent) (λ _ _. refl) refl
-
-  pub name-after-control : names (controlled t g set gone) ≡ names t
-  name-after-control = part-kept (λ x. x.name) (λ _ _. refl) refl
 
   pub owner-after-control : owners (controlled t g set gone) ≡ owners t
   owner-after-control = part-kept (λ x. x.owner) (λ _ _. refl) refl
@@ -138,7 +148,6 @@ module _ (t : Tree) (g : ℕ) (set gone : Controls) where
                 free_process = w.blank.free_process;
               };
           past = remembered-eq live-after-control parent-after-control (part-kept (λ x. x.depth) (λ _ _. refl) refl) refl w.past;
-          named = named-eq live-after-control parent-after-control name-after-control w.named;
           owned = ap (λ f. f 0) owner-after-control ∙ w.owned;
           sized = record { size = w.sized.size; fits = rw (amount-after-control Pages 0) w.sized.fits };
         }

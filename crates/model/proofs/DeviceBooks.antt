@@ -93,7 +93,7 @@ rates-kept t g v e = fun_ext (upd-keeps rates_of t.group g v (ap rates_in e))
 rates-entered : (t : Tree) (c : Call) → WellFormed t → Pass (checks (facts_of t) c)
     → account_of (effect t c) ≡ enter_rates (cores t) (account_of t) c
 unfolding effect enter_rates limits_at checks Pass setting_checks
-rates-entered t (Call.make user parent new name) w p = rates-put t new _
+rates-entered t (Call.make user parent new) w p = rates-put t new _
 rates-entered t (Call.remove user g) w p =
     let u : Tree = at_group t (parents t g) (charged (t.group g).core.own (t.group (parents t g))) in
     rates-put u g no_group ∙ ap (λ a. upd a g no_rates) (rates-kept t (parents t g) _ refl)
@@ -110,7 +110,6 @@ rates-entered t (Call.charge q n) w p = rates-kept t _ _ refl
 rates-entered t (Call.release g n) w p = rates-kept t g _ refl
 rates-entered t (Call.read g file buffer) w p = refl
 rates-entered t (Call.membership q buffer) w p = refl
-rates-entered t (Call.walk g path) w p = refl
 
 -- A call, accepted or not, and a list of them.
 account-step : (t : Tree) (b : Book) (c : Call) → State t b
@@ -131,4 +130,4 @@ account-run (c ∷ cs) t b s =
 
 pub account-of-fresh : (m : ℕ) → account_of (fresh m) ≡ no_account
 unfolding fresh limits_at
-account-of-fresh m = fun_ext (upd-keeps rates_of (λ g. no_group) 0 (new_group 0 0 [] 0) refl)
+account-of-fresh m = fun_ext (upd-keeps rates_of (λ g. no_group) 0 (new_group 0 0 0) refl)

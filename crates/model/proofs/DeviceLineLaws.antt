@@ -12,7 +12,7 @@ use lib.ListN.{length, length-append}
 use borrow.Author.Tests.{eqb-true, eq-eqb, ne_eqb, lt-leb}
 use Rattle.model.specs.Functions.{All}
 use Rattle.model.specs.Sizes.{device_numbers, largest_rate}
-use Rattle.model.specs.Text.{newline, space, same_bytes, words, is_digit, number_word, decimal, separated}
+use Rattle.model.specs.Text.{newline, space, same_bytes, words, is_digit, number_word, decimal, spaced}
 use Rattle.model.specs.Names.{named}
 use Rattle.model.specs.Devices.{keys, pair_of, pairs_of}
 use Rattle.model.specs.Figures.{limit_word, limit_text}
@@ -163,7 +163,7 @@ module _ (a b : ℕ) (p : Pairs) where
 -- "255:255" and four pairs of 16 digits
 pub length-of-line : (a b : ℕ) (l : Key → Limit) → a < device_numbers → b < device_numbers → ((k : Key) → rate_in (l k) ≡ true)
     → length (line_text a b (given-all l)) ≤ 97
-unfolding separated pair_texts
+unfolding spaced pair_texts
 length-of-line a b l x y h =
     let size : (k : Key) → length (limit_text (l k)) ≤ 16 = (λ k. length-limit_text 1 largest_rate (l k) (omega arith) (h k)) in
     simp length-append

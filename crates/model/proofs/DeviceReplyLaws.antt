@@ -16,7 +16,7 @@ use Rattle.model.specs.Checks.{errno_number, answer_number, Check, first, Pass}
 use Rattle.model.specs.Devices.{major_of, minor_of, all_max, DeviceLimits, limits_at, Ascending, Table}
 use Rattle.model.specs.Tree.{Tree, Settings, lives, settings_at}
 use Rattle.model.specs.Hierarchy.{on, facts_of}
-use Rattle.model.specs.Text.{bytes, ended, joined, decimal, separated}
+use Rattle.model.specs.Text.{bytes, ended, joined, decimal, spaced}
 use Rattle.model.specs.Names.{setting_name, setting_named, settings}
 use Rattle.model.specs.Figures.{limit_text}
 use Rattle.model.specs.DeviceLines.{device_in, pair_texts}
@@ -137,7 +137,7 @@ line-of-parts : (major s minor t a u b v c w d end : List ℕ)
 line-of-parts major s minor t a u b v c w d end = simp append_assoc
 
 line-of-device : (x : DeviceLimits) → ended (value_text (shown_device x)) ≡ plain_line x.device x.limit
-unfolding value_text separated pair_texts plain_line
+unfolding value_text spaced pair_texts plain_line
 line-of-device x =
     line-of-parts (decimal (major_of x.device)) (bytes ":") (decimal (minor_of x.device))
     (bytes " rbps=") (limit_text (x.limit Rbps)) (bytes " wbps=") (limit_text (x.limit Wbps))

@@ -11,14 +11,13 @@ use mathlib.Core.Path.{◌≡◌, refl, ap, ap₂, sym, ◌∙◌}
 use lib.ListN.{length, length-append}
 use borrow.Author.Tests.{eq-eqb, ne_eqb, le-leb, lt-leb}
 use Rattle.model.specs.Functions.{mapped, or_else}
-use Rattle.model.specs.Sizes.{processes, deepest, longest_name, longest_listing, longest_live_membership, longest_membership}
+use Rattle.model.specs.Sizes.{processes, deepest, longest_listing, longest_live_membership, longest_membership}
 use Rattle.model.specs.Checks.{bar, need, first, answer_number}
 use Rattle.model.specs.Tree.{Tree, Place, nowhere, at, Process, Past, is_live, lives, places}
-use Rattle.model.specs.Zombies.{is_zombie, path_parents, path_names, process_taken, last_group}
+use Rattle.model.specs.Zombies.{is_zombie, path_parents, process_taken, last_group}
 use Rattle.model.specs.Hierarchy.{facts_of}
 use Rattle.model.specs.Text.{bytes, newline, ended, decimal}
 use Rattle.model.specs.Names.{file_name}
-use Rattle.model.specs.Paths.{good_name}
 use Rattle.model.specs.Rules.{stands_in}
 use Rattle.model.specs.Files.{path_text, deleted_mark, process_lines, contents, path, membership_line}
 use Rattle.model.specs.Calls.{admit, read, membership, file_text, checks, verdict}
@@ -32,8 +31,6 @@ use Rattle.model.proofs.FunctionLaws.{split, whether, clash, upd_same, upd_other
 use Rattle.model.proofs.DecimalLaws.{length-decimal, length-decimal-least}
 use Rattle.model.proofs.NameLaws.{file_named-file_name}
 use Rattle.model.proofs.ZombieLaws.{last-there}
-use Rattle.model.proofs.PathLaws.{good_length}
-use Rattle.model.proofs.NamedLaws.{named-there}
 use Rattle.model.proofs.Steps.{process-lives, by-verdict, step-accepted, step-refused, well-formed-run}
 use Rattle.model.proofs.Books.{reply-number}
 use Rattle.model.proofs.Reached.{well-formed-fresh}
@@ -205,52 +202,46 @@ listing-reached m user =
 
 -- ---- paths
 
-module _ (up : ℕ → ℕ) (name : ℕ → List ℕ) where
-  pub path-root : (n g : ℕ) → g ≡ 0 → path up name n g ≡ []
-  unfolding path
-  path-root zero g e = refl
-  path-root (suc n) g e = rw (eq-eqb g 0 e)
+pub path-root : (up : ℕ → ℕ) (n g : ℕ) → g ≡ 0 → path up n g ≡ []
+unfolding path
+path-root up zero g e = refl
+path-root up (suc n) g e = rw (eq-eqb g 0 e)
 
-  pub path-none : (deep g : ℕ) → deep ≡ 0 → [] ≡ path up name deep g
-  unfolding path
-  path-none deep g e = rw e
+pub path-none : (up : ℕ → ℕ) (deep g : ℕ) → deep ≡ 0 → [] ≡ path up deep g
+unfolding path
+path-none up deep g e = rw e
 
-  pub path-up : (n g : ℕ) → g ≢ 0 → path up name (suc n) g ≡ path up name n (up g) ++ (bytes "/" ++ name g)
-  unfolding path
-  path-up n g ne = rw (ne_eqb g 0 ne)
+pub path-up : (up : ℕ → ℕ) (n g : ℕ) → g ≢ 0 → path up (suc n) g ≡ path up n (up g) ++ (bytes "/" ++ decimal g)
+unfolding path
+path-up up n g ne = rw (ne_eqb g 0 ne)
 
-  -- a "/" and a name for each group on it
-  pub length-path : {live : ℕ → Bool} {depth : ℕ → ℕ} → Sound live up depth
-      → ((g : ℕ) → live g ≡ true → g ≢ 0 → good_name (name g) ≡ true) → (n g : ℕ) → live g ≡ true → length (path up name n g) ≤ n * suc longest_name
-  length-path s good zero g l = rw (← path-none zero g refl) (omega arith)
-  length-path s good (suc n) g l =
-      whether g 0
-      (λ e. rw (path-root (suc n) g e) (omega arith))
-      (λ ne.
-      rw (path-up n g ne, length-append)
-      (omega (
-        arith,
-        length-path s good n (up g) (s.above g l ne),
-        (good_length (name g) (good g l ne)).1,
-      )))
+-- three digits and a "/" for each group on it
+pub length-path : {live : ℕ → Bool} {up depth : ℕ → ℕ} (s : Sound live up depth) (n g : ℕ) → live g ≡ true → length (path up n g) ≤ n * 4
+length-path {up = up} s zero g l = rw (← path-none up zero g refl) (omega arith)
+length-path {up = up} s (suc n) g l =
+    whether g 0
+    (λ e. rw (path-root up (suc n) g e) (omega arith))
+    (λ ne.
+    rw (path-up up n g ne, length-append)
+    (omega (
+      arith,
+      length-path s n (up g) (s.above g l ne),
+      length-decimal g 3 (omega (arith, s.range g l)) (omega arith),
+    )))
 
 length-mark : (t : Tree) (g : ℕ) → length (deleted_mark t g) ≤ 10
 length-mark t g = split (lives t g) (λ l. rw l (omega arith)) (λ n. rw n (omega arith))
 
-length-text : (t : Tree) → WellFormed t → (p : ℕ) → process_taken t p ≡ true → length (path_text t (last_group t p)) ≤ 515
+length-text : (t : Tree) → WellFormed t → (p : ℕ) → process_taken t p ≡ true → length (path_text t (last_group t p)) ≤ 67
 length-text t w p k =
     let g : ℕ = last_group t p in
     whether g 0
     (λ e. rw (eq-eqb g 0 e) (omega arith))
     (λ ne. rw (ne_eqb g 0 ne)
-    (omega (
-      arith,
-      length-append (bytes "0::") (path (path_parents t) (path_names t) deepest g),
-      length-path (path_parents t) (path_names t) w.past.paths (named-there t w) deepest g (last-there t w p k),
-    )))
+    (omega (arith, length-append (bytes "0::") (path (path_parents t) deepest g), length-path w.past.paths deepest g (last-there t w p k))))
 
 length-with : (t : Tree) → WellFormed t → (p n : ℕ) → process_taken t p ≡ true → length (deleted_mark t (last_group t p)) ≤ n
-    → length (membership_line t p) ≤ 516 + n
+    → length (membership_line t p) ≤ 68 + n
 unfolding membership_line
 length-with t w p n k m =
     let g : ℕ = last_group t p in

@@ -29,11 +29,10 @@ use Rattle.model.proofs.Containment.{owner-of-write, contained}
 
 module _ (t : Tree) (w : WellFormed t) (user d : ℕ) (nz : user ≢ 0) (own : OwnsInside t user d) where
   -- a group is made: by the user under one of his own, or by somebody else
-  owns-made : (by parent new : ℕ) (name : List ℕ) → Making t by parent new name
-      → WellFormed (at_group t new (new_group parent (suc (depths t parent)) name by))
-      → OwnsInside (at_group t new (new_group parent (suc (depths t parent)) name by)) user d
-  owns-made by parent new name k w' g l o =
-      let v : Group = new_group parent (suc (depths t parent)) name by in
+  owns-made : (by parent new : ℕ) → Making t by parent new → WellFormed (at_group t new (new_group parent (suc (depths t parent)) by))
+      → OwnsInside (at_group t new (new_group parent (suc (depths t parent)) by)) user d
+  owns-made by parent new k w' g l o =
+      let v : Group = new_group parent (suc (depths t parent)) by in
       let up : parents (at_group t new v) ≡ upd (parents t) new parent = upd-map (λ x. x.core.parent) t.group new v in
       whether g new
       (λ e. let here : by ≡ user = sym (ap (λ x. x.owner) (upd_same t.group new v)) ∙ rw e at o in
@@ -90,7 +89,7 @@ module _ (t : Tree) (w : WellFormed t) (user d : ℕ) (nz : user ≢ 0) (own : O
       (λ same. own g k.patch.alive (sym same ∙ e))
       (λ (h : HandsOver c g v.owner). given_inside g v c z f h e)
       k.owner)
-  owns-change (made by parent new name x k) z w' f = owns-made by parent new name k w'
+  owns-change (made by parent new x k) z w' f = owns-made by parent new k w'
   owns-change (ended p k l) z w' f = own
   owns-change (collected p x k) z w' f = own
   owns-change (removal user g x k) z w' f = owns-removed g k.no_child

@@ -3,17 +3,13 @@
 use Prim.Native.Nat.{ℕ, suc, ◌+◌, ◌≤◌, ◌<◌}
 use native.Mathlib.Omega.{arith}
 use mathlib.Core.Bool.{Bool, true, false}
-use mathlib.Core.List.{List}
 use mathlib.Core.Logic.{◌≢◌, inl, inr}
-use mathlib.Core.Option.{none}
 use mathlib.Core.Path.{◌≡◌, refl, ap, sym, ◌∙◌, fun_ext}
 use Rattle.model.specs.Functions.{upd, weigh}
 use Rattle.model.specs.Sizes.{groups, processes, deepest}
-use Rattle.model.specs.Tree.{Tree, Group, Process, nowhere, at, settings_of, no_core, no_controls, no_group, no_process, is_live, Past, no_remnant, with_past, new_group, at_group, at_process, cores, lives, parents, depths, owners, sets, settings_at, places, zombies, names, remains}
+use Rattle.model.specs.Tree.{Tree, Group, Process, nowhere, at, settings_of, no_core, no_controls, no_group, no_process, is_live, Past, no_remnant, with_past, new_group, at_group, at_process, cores, lives, parents, depths, owners, sets, settings_at, places, zombies, remains}
 use Rattle.model.specs.Hierarchy.{on_in, inside, own_pages, usage}
 use Rattle.model.specs.Settings.{AtDefault, Allowed}
-use Rattle.model.specs.Zombies.{is_removed, on_path}
-use Rattle.model.specs.Paths.{good_name, child_named}
 use Rattle.model.specs.WellFormed.{Remembered, WellFormed}
 use Rattle.model.specs.Effects.{charged, removed}
 use Rattle.model.specs.declared.Controller.{Controller}
@@ -21,7 +17,6 @@ use Rattle.model.specs.declared.Resource.TheVariants.{Pages}
 use Rattle.model.proofs.FunctionLaws.{whether, clash, upd_same, upd_other, upd-map, upd-keeps, upd-all, weigh-yes}
 use Rattle.model.proofs.AmountLaws.{usage-change, amount-after-make, amount-after-remove}
 use Rattle.model.proofs.RuleLaws.{NoChild, sound-eq, placed-eq, top-down-eq, defaults-eq, ranges-eq, quiet-eq, sound-after-make, placed-after-make, top-down-after-make, sound-after-remove, placed-after-remove, top-down-after-remove, placed-after-put, quiet-after-put, quiet-after-set, ranges-after-put, ranges-live, defaults-frame, defaults-after-put}
-use Rattle.model.proofs.NamedLaws.{named-eq, no-sibling, named-with-fewer, named-after-make, named-after-remove}
 use Rattle.model.proofs.Remembering.{remembered-eq, remembered-after-put, remembered-after-make, remembered-after-remove}
 
 -- what may change in a live group without a change to the hierarchy
@@ -30,7 +25,6 @@ pub record Patch (t : Tree) (g : ℕ) (v : Group) : Type 0 where
   pub live : v.core.live ≡ true
   pub parent : v.core.parent ≡ parents t g
   pub depth : v.depth ≡ depths t g
-  pub name : v.name ≡ names t g
   pub set : v.set ≡ sets t g
   pub owner : g ≡ 0 → v.owner ≡ 0
   pub defaults : (c : Controller) → on_in (parents t) (sets t) c g ≡ false → AtDefault c (settings_of v)
@@ -63,11 +57,6 @@ pub part-after-remove : {A : Type 0} (t : Tree) (g : ℕ) (F : Group → A)
 part-after-remove t g F e =
     upd-map F (upd t.group (parents t g) _) g no_group
     ∙ ap (λ f. upd f g (F no_group)) (fun_ext (upd-keeps F t.group (parents t g) _ e))
-
-pub part-beside-removed : {A : Type 0} (t : Tree) (g : ℕ) (F : Group → A)
-    → F (charged (t.group g).core.own (t.group (parents t g))) ≡ F (t.group (parents t g))
-    → (x : ℕ) → x ≢ g → F ((removed t g).group x) ≡ F (t.group x)
-part-beside-removed t g F e x ne = ap (λ f. f x) (part-after-remove t g F e) ∙ upd_other (λ j. F (t.group j)) g (F no_group) x ne
 
 module _ (t : Tree) (w : WellFormed t) where
   -- A group changed in place.
@@ -103,7 +92,6 @@ module _ (t : Tree) (w : WellFormed t) where
                 free_process = w.blank.free_process;
               };
           past = remembered-eq same_live same-parent (part_same (λ x. x.depth) k.depth) refl w.past;
-          named = named-eq same_live same-parent (part_same (λ x. x.name) k.name) w.named;
           owned = upd-all (λ j x. j ≡ 0 → x.owner ≡ 0) t.group g v k.owner (λ j _ z. rw z w.owned) 0 refl;
           sized = record { size = w.sized.size; fits = fits };
         }
@@ -130,15 +118,13 @@ module _ (t : Tree) (w : WellFormed t) where
               free_process = upd-all (λ j x. is_live x.place ≡ false → x ≡ no_process) t.process p v n (λ j _. w.blank.free_process j);
             };
         past = remembered-eq refl refl refl e (remembered-after-put w.sound w.past p v.place z);
-        named = w.named;
         owned = w.owned;
         sized = w.sized;
       }
 
-  -- Only the rule of the dead and that of names ask what is kept of them; nothing new is kept.
-  pub well-formed-after-past : (d : Past) → Remembered (lives t) (parents t) (depths t) (places t) d
-      → ((g : ℕ) → is_removed (d.remains g) ≡ true → d.remains g ≡ remains t g) → WellFormed (with_past d t)
-  well-formed-after-past d m e =
+  -- Only the rule of the dead asks what is kept of them.
+  pub well-formed-after-past : (d : Past) → Remembered (lives t) (parents t) (depths t) (places t) d → WellFormed (with_past d t)
+  well-formed-after-past d m =
       record {
         sound = w.sound;
         placed = w.placed;
@@ -148,15 +134,14 @@ module _ (t : Tree) (w : WellFormed t) where
         quiet = w.quiet;
         blank = w.blank;
         past = m;
-        named = named-with-fewer w.named d.remains e;
         owned = w.owned;
         sized = w.sized;
       }
 
   -- A group made.
-  module _ (p new user : ℕ) (name : List ℕ) (lp : lives t p ≡ true) (ln : lives t new ≡ false) (blank : remains t new ≡ no_remnant) where
+  module _ (p new user : ℕ) (lp : lives t p ≡ true) (ln : lives t new ≡ false) (blank : remains t new ≡ no_remnant) where
     abbrev made : Group
-    made = new_group p (suc (depths t p)) name user
+    made = new_group p (suc (depths t p)) user
 
     part-made : {A : Type 0} (F : Group → A) → ◌≡◌ {A = ℕ → A} (λ j. F (upd t.group new made j)) (upd (λ j. F (t.group j)) new (F made))
     part-made F = upd-map F t.group new made
@@ -164,10 +149,10 @@ module _ (t : Tree) (w : WellFormed t) where
     not_new : (x : ℕ) → lives t x ≡ true → x ≢ new
     not_new x l e = clash (lives t x) l (rw e ln)
 
-    pub well-formed-after-make : new < groups → depths t p < deepest → good_name name ≡ true → child_named t p name ≡ none
+    pub well-formed-after-make : new < groups → depths t p < deepest
         → ((c : Controller) → AtDefault c (settings_of made)) → Allowed (settings_of made)
         → WellFormed (at_group t new made)
-    well-formed-after-make r d good free at_default in-range =
+    well-formed-after-make r d at_default in-range =
         record {
           sound =
               sound-eq (part-made (λ x. x.core.live)) (part-made (λ x. x.core.parent)) (part-made (λ x. x.depth))
@@ -200,9 +185,6 @@ module _ (t : Tree) (w : WellFormed t) where
           past =
               remembered-eq (part-made (λ x. x.core.live)) (part-made (λ x. x.core.parent)) (part-made (λ x. x.depth)) refl
               (remembered-after-make w.sound w.past new p lp ln blank r d);
-          named =
-              named-eq (part-made (λ x. x.core.live)) (part-made (λ x. x.core.parent)) (part-made (λ x. x.name))
-              (named-after-make w.named new p name (not_new 0 w.sound.root) good (no-sibling t w p name free));
           owned = ap (λ x. x.owner) (upd_other t.group new made 0 (not_new 0 w.sound.root)) ∙ w.owned;
           sized =
               record {
@@ -255,10 +237,7 @@ module _ (t : Tree) (w : WellFormed t) where
               };
           past =
               remembered-eq (part-after-remove t g (λ x. x.core.live) refl) (part-after-remove t g (λ x. x.core.parent) refl) (part-after-remove t g (λ x. x.depth) refl) refl
-              (remembered-after-remove w.sound w.past g lg gz nc (names t g));
-          named =
-              named-eq (part-after-remove t g (λ x. x.core.live) refl) (part-after-remove t g (λ x. x.core.parent) refl) (part-after-remove t g (λ x. x.name) refl)
-              (named-after-remove w.named g lg gz (on_path t g) (parents t g) (depths t g));
+              (remembered-after-remove w.sound w.past g lg gz nc);
           owned =
               ap (λ f. f 0) (part-after-remove t g (λ x. x.owner) refl) ∙ upd_other (owners t) g 0 0 (λ e. gz (sym e)) ∙ w.owned;
           sized =

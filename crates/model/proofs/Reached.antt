@@ -23,7 +23,7 @@ module _ (m : ℕ) where
   -- the root alone is live
   only-root : (g : ℕ) → lives (fresh m) g ≡ true → g ≡ 0
   unfolding fresh
-  only-root g h = whether g 0 (λ e. e) (λ ne. clash false (sym (ap (λ x. x.core.live) (upd_other (λ (x : ℕ). no_group) 0 (new_group 0 0 [] 0) g ne)) ∙ h) refl)
+  only-root g h = whether g 0 (λ e. e) (λ ne. clash false (sym (ap (λ x. x.core.live) (upd_other (λ (x : ℕ). no_group) 0 (new_group 0 0 0) g ne)) ∙ h) refl)
 
   only-there : (g : ℕ) → there (fresh m) g ≡ true → g ≡ 0
   unfolding fresh
@@ -31,9 +31,9 @@ module _ (m : ℕ) where
       ⊎_elim (λ (l : lives (fresh m) g ≡ true). only-root g l) (λ (r : (lives (fresh m) g ≡ false) × (false ≡ true)). clash false r.1 refl)
       (there-cases (lives (fresh m)) (remains (fresh m)) g h)
 
-  root-new : (fresh m).group 0 ≡ new_group 0 0 [] 0
+  root-new : (fresh m).group 0 ≡ new_group 0 0 0
   unfolding fresh
-  root-new = upd_same (λ (x : ℕ). no_group) 0 (new_group 0 0 [] 0)
+  root-new = upd_same (λ (x : ℕ). no_group) 0 (new_group 0 0 0)
 
   pub well-formed-fresh : WellFormed (fresh m)
   unfolding fresh
@@ -62,7 +62,7 @@ module _ (m : ℕ) where
         blank =
             record {
               free_group =
-                  upd-all (λ j x. x.core.live ≡ false → x ≡ no_group) (λ (g : ℕ). no_group) 0 (new_group 0 0 [] 0)
+                  upd-all (λ j x. x.core.live ≡ false → x ≡ no_group) (λ (g : ℕ). no_group) 0 (new_group 0 0 0)
                   (λ h. clash true refl h) (λ j _ _. refl);
               free_process = λ p e. refl;
             };
@@ -94,18 +94,11 @@ module _ (m : ℕ) where
               group = λ g l. refl;
               process = λ p l. refl;
             };
-        named =
-            record {
-              root = ap (λ x. x.name) root-new;
-              formed = λ g l nz. absurd (nz (only-root g l));
-              kept = λ g r. clash false r refl;
-              apart = λ g h l k gz hz u e. absurd (gz (only-root g l));
-            };
         owned = ap (λ x. x.owner) root-new;
         sized =
             record {
               size = omega arith;
-              fits = rw (upd-map (λ x. x.core) (λ (g : ℕ). no_group) 0 (new_group 0 0 [] 0)) (omega (arith, usage-fresh 0));
+              fits = rw (upd-map (λ x. x.core) (λ (g : ℕ). no_group) 0 (new_group 0 0 0)) (omega (arith, usage-fresh 0));
             };
       }
 

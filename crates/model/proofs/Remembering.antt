@@ -3,7 +3,6 @@
 use Prim.Native.Nat.{ℕ, suc, ◌<◌}
 use native.Mathlib.Omega.{arith}
 use mathlib.Core.Bool.{Bool, true, false}
-use mathlib.Core.List.{List}
 use mathlib.Core.Logic.{◌≢◌, ◌⊎◌, ⊎_elim}
 use mathlib.Core.Path.{◌≡◌, refl, ap, sym, ◌∙◌, fun_ext}
 use Rattle.model.specs.Functions.{pick, upd}
@@ -53,20 +52,20 @@ module _ (live : ℕ → Bool) (left : ℕ → Remnant) (g : ℕ) where
       (λ ne. rw (upd_other live g false j ne, upd_other left g no_remnant j ne, upd_other f g 0 j ne, upd_other (or_remnant h live f left) g 0 j ne)))
 
   -- something is left of it
-  there-left : (r : Remnant) → is_removed r ≡ true → live g ≡ true → there_in (upd live g false) (upd left g r) ≡ there_in live left
-  there-left r k l =
+  there-left : (p d : ℕ) → live g ≡ true → there_in (upd live g false) (upd left g (remnant p d)) ≡ there_in live left
+  there-left p d l =
       fun_ext
       (λ j. whether j g
-      (λ e. rw (e, upd_same, upd_same, l) k)
-      (λ ne. rw (upd_other live g false j ne, upd_other left g r j ne)))
+      (λ e. rw (e, upd_same, upd_same, l))
+      (λ ne. rw (upd_other live g false j ne, upd_other left g (remnant p d) j ne)))
 
-  or_left : (h : Remnant → ℕ) (f : ℕ → ℕ) (r : Remnant) → live g ≡ true → h r ≡ f g
-      → or_remnant h (upd live g false) (upd f g 0) (upd left g r) ≡ or_remnant h live f left
-  or_left h f r l z =
+  or_left : (h : Remnant → ℕ) (f : ℕ → ℕ) (p d : ℕ) → live g ≡ true → h (remnant p d) ≡ f g
+      → or_remnant h (upd live g false) (upd f g 0) (upd left g (remnant p d)) ≡ or_remnant h live f left
+  or_left h f p d l z =
       fun_ext
       (λ j. whether j g
       (λ e. rw (e, upd_same, upd_same, l) z)
-      (λ ne. rw (upd_other live g false j ne, upd_other left g r j ne, upd_other f g 0 j ne)))
+      (λ ne. rw (upd_other live g false j ne, upd_other left g (remnant p d) j ne, upd_other f g 0 j ne)))
 
 module _ {live : ℕ → Bool} {parent depth : ℕ → ℕ} {place : ℕ → Place} {d : Past} (s : Sound live parent depth) (m : Remembered live parent depth place d) where
   abbrev there : ℕ → Bool
@@ -153,15 +152,16 @@ module _ {live : ℕ → Bool} {parent depth : ℕ → ℕ} {place : ℕ → Pla
         (λ ne. upd_other d.remains g r x ne ∙ m.group x (sym (upd_other live g false x ne) ∙ l))
 
     -- a path runs through it
-    left-on-path : (name : List ℕ) → on_path_in up d.zombie g ≡ true
-        → Remembered (upd live g false) (upd parent g 0) (upd depth g 0) place (after (remnant (parent g) (depth g) name))
-    left-on-path name o =
-        let r : Remnant = remnant (parent g) (depth g) name in
-        let ups : or_remnant remnant_parent (upd live g false) (upd parent g 0) (upd d.remains g r) ≡ up = or_left live d.remains g remnant_parent parent r lg refl in
+    left-on-path : on_path_in up d.zombie g ≡ true
+        → Remembered (upd live g false) (upd parent g 0) (upd depth g 0) place (after (remnant (parent g) (depth g)))
+    left-on-path o =
+        let r : Remnant = remnant (parent g) (depth g) in
+        let ups : or_remnant remnant_parent (upd live g false) (upd parent g 0) (upd d.remains g r) ≡ up = or_left live d.remains g remnant_parent parent (parent g) (depth g) lg refl in
         record {
           paths =
-              sound-eq (there-left live d.remains g r refl lg) ups (or_left live d.remains g remnant_depth depth r lg refl) m.paths;
-          ended = placed-eq (there-left live d.remains g r refl lg) refl m.ended;
+              sound-eq (there-left live d.remains g (parent g) (depth g) lg) ups
+              (or_left live d.remains g remnant_depth depth (parent g) (depth g) lg refl) m.paths;
+          ended = placed-eq (there-left live d.remains g (parent g) (depth g) lg) refl m.ended;
           needed = λ x k.
               ap (λ f. on_path_in f d.zombie x) ups
               ∙ whether x g (λ e. rw e o) (λ ne. m.needed x (sym (ap is_removed (upd_other d.remains g r x ne)) ∙ k));
@@ -200,9 +200,9 @@ module _ {live : ℕ → Bool} {parent depth : ℕ → ℕ} {place : ℕ → Pla
             clash (on_path_in up d.zombie g) (rw (← e) (path-up m.paths m.ended c cz (m.needed c r.1))) n)
             (there-cases live d.remains c t)
 
-    pub remembered-after-remove : (name : List ℕ) → Remembered (upd live g false) (upd parent g 0) (upd depth g 0) place
-        (after (kept_if (on_path_in up d.zombie g) (remnant (parent g) (depth g) name)))
-    remembered-after-remove name = split (on_path_in up d.zombie g) (λ o. rw o (left-on-path name o)) (λ n. rw n (blank-off-path n))
+    pub remembered-after-remove : Remembered (upd live g false) (upd parent g 0) (upd depth g 0) place
+        (after (kept_if (on_path_in up d.zombie g) (remnant (parent g) (depth g))))
+    remembered-after-remove = split (on_path_in up d.zombie g) (λ o. rw o (left-on-path o)) (λ n. rw n (blank-off-path n))
 
   -- A zombie is collected.
   module _ (p : ℕ) where
@@ -227,7 +227,7 @@ module _ {live : ℕ → Bool} {parent depth : ℕ → ℕ} {place : ℕ → Pla
         }
 
     -- what is left then was left before, and is on a path
-    pub rest-kept : (x : ℕ) → is_removed (rest x) ≡ true → (on_path_in up others x ≡ true) × (rest x ≡ d.remains x)
+    rest-kept : (x : ℕ) → is_removed (rest x) ≡ true → (on_path_in up others x ≡ true) × (rest x ≡ d.remains x)
     rest-kept x r =
         split (on_path_in up others x)
         (λ o. (o, rw o))

@@ -19,7 +19,6 @@ use Rattle.model.specs.Settings.{setting_controller, in_range, has_room, value_o
 use Rattle.model.specs.Text.{line_words}
 use Rattle.model.specs.Names.{setting_named}
 use Rattle.model.specs.Rules.{available, stands_in, process_group, has_child, has_process, held_by_child, line_process, joining, leaving}
-use Rattle.model.specs.Paths.{child_named}
 use Rattle.model.specs.Calls.{Call, setting_value, line_value, charge_checks, fork_checks, setting_checks, checks, verdict}
 use Rattle.model.specs.Effects.{past_exit, past_collect, new_set, written, effect, step, run}
 use Rattle.model.specs.WellFormed.{WellFormed}
@@ -39,10 +38,9 @@ use Rattle.model.proofs.AllowedLaws.{allowed-new, allowed-after-assign}
 use Rattle.model.proofs.RoomLaws.{room-on-chain, over-figure, machine-acts}
 use Rattle.model.proofs.RuleLaws.{NoChild}
 use Rattle.model.proofs.ZombieLaws.{untaken-process}
-use Rattle.model.proofs.Remembering.{remembered-after-exit, remembered-after-collect, remembered-eq, rest-kept}
+use Rattle.model.proofs.Remembering.{remembered-after-exit, remembered-after-collect, remembered-eq}
 use Rattle.model.proofs.Preservation.{Patch, well-formed-after-patch, well-formed-after-place, well-formed-after-past, well-formed-after-make, well-formed-after-remove}
-use Rattle.model.proofs.ChildLaws.{child-of, unknown}
-use Rattle.model.proofs.ControlPreservation.{Control, well-formed-after-control}
+use Rattle.model.proofs.ControlPreservation.{child-of, Control, well-formed-after-control}
 use Rattle.model.proofs.SettingPreservation.{part-written}
 use Rattle.model.proofs.Changes.{still, came, went, place-stands, place-blank, usage-altered, made-dead, made-blank, Placing, Change, nothing, placed, altered, made, ended, collected, removal, control}
 
@@ -99,7 +97,6 @@ module _ (t : Tree) (w : WellFormed t) where
         live = l;
         parent = refl;
         depth = refl;
-        name = refl;
         set = refl;
         owner = z;
         defaults = λ x h. w.defaults.off x g l h;
@@ -125,7 +122,6 @@ module _ (t : Tree) (w : WellFormed t) where
         live = l;
         parent = refl;
         depth = refl;
-        name = refl;
         set = refl;
         owner = root-owner g;
         defaults =
@@ -185,14 +181,12 @@ module _ (t : Tree) (w : WellFormed t) where
 -- Every accepted call makes one of the eight changes.
 pub change : (t : Tree) (c : Call) → WellFormed t → Pass (checks (facts_of t) c) → Change t c (effect t c)
 unfolding effect checks Pass charge_checks fork_checks setting_checks
-change t (Call.make user parent new name) w k =
-    made user parent new name refl
+change t (Call.make user parent new) w k =
+    made user parent new refl
     (record {
       above = (search);
       free = (search);
       low = omega (arith, leb-false);
-      good = (search);
-      unnamed = unknown (child_named t parent name) (search);
       shallow = omega (arith, leb-false);
       may = (search);
     })
@@ -289,7 +283,6 @@ change t (Call.release g n) w k =
     (record { patch = patch-same t w g _ _ l (root-owner t w g); owner = inl refl; pages = went n refl h; limit = inl refl })
 change t (Call.read g file buffer) w k = nothing refl
 change t (Call.membership p buffer) w k = nothing refl
-change t (Call.walk g path) w k = nothing refl
 
 well-formed-placed : (t : Tree) {c : Call} → WellFormed t → (p : ℕ) (v : Process) → Placing t c p v → WellFormed (at_process t p v)
 well-formed-placed t w p v k =
@@ -303,18 +296,15 @@ well-formed-change t w (ended p k l) =
     well-formed-after-past (at_process t p no_process) (well-formed-placed t w p no_process k) (past_exit t p)
     (remembered-eq refl refl refl (upd-map (λ x. x.place) t.process p no_process)
     (remembered-after-exit w.sound w.past p _ k.number k.low here (process-lives t w p l)))
-    (λ g r. refl)
-well-formed-change t w (collected p f z) =
-    well-formed-after-past t w (past_collect t p) (remembered-after-collect w.sound w.past p) (λ g r. (rest-kept w.sound w.past p g r).1)
+well-formed-change t w (collected p f z) = well-formed-after-past t w (past_collect t p) (remembered-after-collect w.sound w.past p)
 well-formed-change t w (altered g v k) =
     well-formed-after-patch t w g v k.patch
     (⊎_elim
     (λ (x : usage (cores (at_group t g v)) 0 ≤ usage (cores t) 0). omega (arith, w.sized.fits))
     (λ x. over-figure _ t.machine _ x (machine-acts t))
     (usage-altered t w g v k 0))
-well-formed-change t w (made user parent new name f k) =
-    well-formed-after-make t w parent new user name k.above (made-dead t w k) (made-blank t w k) k.low k.shallow k.good k.unnamed
-    default-new allowed-new
+well-formed-change t w (made user parent new f k) =
+    well-formed-after-make t w parent new user k.above (made-dead t w k) (made-blank t w k) k.low k.shallow default-new allowed-new
 well-formed-change t w (removal user g f k) = well-formed-after-remove t w g k.alive k.inner k.no_child k.no_process
 well-formed-change t w (control g line f k) = well-formed-after-control t g _ _ w k
 

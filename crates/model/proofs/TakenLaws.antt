@@ -1,12 +1,12 @@
 -- When the number of a removed group is taken, as specs/ZombieRules.antt states it: exactly while some zombie's path runs through it,
 -- and what make answers of it. Assumes nothing.
 use Prim.Native.Nat.{ℕ}
-use mathlib.Core.Bool.{true, false}
+use mathlib.Core.Bool.{Bool, true, false}
 use mathlib.Core.List.{List, ◌∷◌, ◌++◌}
 use mathlib.Core.Logic.{◌≢◌}
 use mathlib.Core.Path.{◌≡◌, refl, ap, sym, ◌∙◌}
 use Rattle.model.specs.Functions.{upd}
-use Rattle.model.specs.Checks.{bar, first, Pass}
+use Rattle.model.specs.Checks.{Check, bar, first, Pass}
 use Rattle.model.specs.Tree.{Tree, Place, nowhere, at, lives, zombies, remains}
 use Rattle.model.specs.Hierarchy.{inside, facts_of}
 use Rattle.model.specs.Zombies.{is_zombie, is_removed, path_parents, on_path_in, on_path, group_taken}
@@ -14,17 +14,30 @@ use Rattle.model.specs.Calls.{make, collect, checks, verdict}
 use Rattle.model.specs.Effects.{kept_if, effect, step}
 use Rattle.model.specs.WellFormed.{WellFormed}
 use Rattle.model.specs.ZombieRules.{before_taken, after_taken, Taken}
+use Rattle.model.specs.declared.Errno.{Errno}
 use Rattle.model.specs.declared.Errno.TheVariants.{Eexist}
+use Rattle.model.specs.declared.Answer.TheVariants.{Refused}
 use Rattle.model.proofs.FunctionLaws.{split, whether, clash, or-true, or_right, upd_same, upd_other}
-use Rattle.model.proofs.CheckLaws.{pass-first, first-barred, first-unbarred}
+use Rattle.model.proofs.CheckLaws.{pass-first, first-append, and_then}
 use Rattle.model.proofs.ZombieLaws.{path-some, path-has, path-there, untaken-blank}
 use Rattle.model.proofs.Remembering.{no_place}
 use Rattle.model.proofs.Steps.{step-accepted, well-formed-step}
 
-asked : (t : Tree) (user parent new : ℕ) (name : List ℕ)
-    → checks (facts_of t) (make user parent new name) ≡ before_taken t user parent new name ++ (bar (group_taken t new) Eexist ∷ after_taken t user parent new name)
+-- One check among others: it refuses where those before it pass, or it is as if it were not there.
+first-barred : (before after : List Check) (b : Bool) (e : Errno) → Pass before → b ≡ true → first (before ++ (bar b e ∷ after)) ≡ Refused e
+unfolding first
+first-barred before after b e k y =
+    first-append before (bar b e ∷ after) ∙ ap (λ a. and_then a (first (bar b e ∷ after))) (pass-first before k) ∙ rw y
+
+first-unbarred : (before after : List Check) (b : Bool) (e : Errno) → b ≡ false → first (before ++ (bar b e ∷ after)) ≡ first (before ++ after)
+unfolding first
+first-unbarred before after b e n =
+    first-append before (bar b e ∷ after) ∙ ap (and_then (first before)) (rw n) ∙ sym (first-append before after)
+
+asked : (t : Tree) (user parent new : ℕ)
+    → checks (facts_of t) (make user parent new) ≡ before_taken t user parent new ++ (bar (group_taken t new) Eexist ∷ after_taken t user parent new)
 unfolding checks
-asked t user parent new name = refl
+asked t user parent new = refl
 
 -- What is left of a group is what some path runs through.
 left : (t : Tree) → WellFormed t → (g : ℕ) → lives t g ≡ false → group_taken t g ≡ is_removed (remains t g)
@@ -64,10 +77,8 @@ taken t w =
       left = left t w;
       freed = freed t w;
       asked = asked t;
-      refused = λ user parent new name k y.
-          ap first (asked t user parent new name)
-          ∙ first-barred (before_taken t user parent new name) (after_taken t user parent new name) _ Eexist k y;
-      decided = λ user parent new name n.
-          ap first (asked t user parent new name)
-          ∙ first-unbarred (before_taken t user parent new name) (after_taken t user parent new name) _ Eexist n;
+      refused = λ user parent new k y.
+          ap first (asked t user parent new) ∙ first-barred (before_taken t user parent new) (after_taken t user parent new) _ Eexist k y;
+      decided = λ user parent new n.
+          ap first (asked t user parent new) ∙ first-unbarred (before_taken t user parent new) (after_taken t user parent new) _ Eexist n;
     }

@@ -102,7 +102,7 @@ module _ (t : Tree) (w : WellFormed t) where
   balanced-change (nothing f) r = still-balanced _ r _ _ f refl
   balanced-change (placed p v k l) r = flow-balanced k.heads r _ _ (held-placed p v k r)
   balanced-change (altered g v k) r = flow-balanced k.pages r _ _ (held-altered g v k.patch r)
-  balanced-change (made user parent new name f k) r =
+  balanced-change (made user parent new f k) r =
       still-balanced _ r _ _ f
       (ap (λ s. amount s (places t) r 0) (upd-map (λ x. x.core) t.group new _)
       ∙ amount-after-make (cores t) (places t) (depths t) w.sound w.placed r new parent 0 (made-dead t w k))
@@ -133,7 +133,7 @@ module _ (t : Tree) (w : WellFormed t) where
   ended-change (placed p v k l) =
       omega (arith, flow-out k.heads Processes, head-at-most (places t p), ap headcount (place-live v.place l))
   ended-change (altered g v k) = omega (arith, flow-out k.pages Processes)
-  ended-change (made user parent new name f k) = rw f
+  ended-change (made user parent new f k) = rw f
   ended-change (ended p k l) =
       omega (arith, flow-out k.heads Processes, zombies-changed p (places t p) k.low, ap headcount (w.past.process p l))
   ended-change (collected p f z) =

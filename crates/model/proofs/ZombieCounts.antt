@@ -8,16 +8,16 @@ use mathlib.Core.Path.{◌≡◌, refl, ap, sym, ◌∙◌}
 use lib.Dec.{eqb}
 use Rattle.model.specs.Functions.{pick, upd, weigh}
 use Rattle.model.specs.Sizes.{processes}
-use Rattle.model.specs.Tree.{Tree, Group, Place, nowhere, at, no_group, remnant, group_of, lives, parents, depths, zombies, remains, at_group, with_past, Remnant, names}
+use Rattle.model.specs.Tree.{Tree, Group, Place, nowhere, at, no_group, remnant, group_of, lives, parents, depths, zombies, remains, at_group, with_past, Remnant}
 use Rattle.model.specs.Hierarchy.{inside, held, headcount, standing}
-use Rattle.model.specs.Zombies.{is_zombie, remnant_parent, path_parents, runs_through, on_path_in, on_path, group_taken, path_names, remnant_name, or_remnant}
+use Rattle.model.specs.Zombies.{is_zombie, remnant_parent, path_parents, runs_through, on_path_in, on_path, group_taken}
 use Rattle.model.specs.Effects.{kept_if, charged, removed, past_collect}
 use Rattle.model.specs.WellFormed.{WellFormed}
 use Rattle.model.proofs.FunctionLaws.{whether, clash, or_right, any-counted, upd_same, upd_other, upd-keeps, weigh-no, weigh-zero}
 use Rattle.model.proofs.ChainLaws.{inside-same}
 use Rattle.model.proofs.HeldLaws.{held_same}
 use Rattle.model.proofs.AmountLaws.{standing-change}
-use Rattle.model.proofs.ZombieLaws.{zombie-place, path-has}
+use Rattle.model.proofs.ZombieLaws.{zombie-place, or-live, path-has}
 
 -- a zombie counts one where its path runs through
 runs-weigh : (up : ℕ → ℕ) (g : ℕ) (l : Place) → weigh (inside up g (group_of l)) (headcount l) ≡ weigh (runs_through up g l) 1
@@ -56,42 +56,27 @@ module _ (t : Tree) (w : WellFormed t) where
     groups-after = upd t.group (parents t g) heir
 
     abbrev left : Remnant
-    left = kept_if (on_path t g) (remnant (parents t g) (depths t g) (names t g))
+    left = kept_if (on_path t g) (remnant (parents t g) (depths t g))
 
-    -- a part of it that a remnant keeps, and that own pages do not show
-    module _ {A : Type 0} (h : Remnant → A) (F : Group → A) (same : F heir ≡ F (t.group (parents t g)))
-        (keeps : h (remnant (parents t g) (depths t g) (names t g)) ≡ F (t.group g)) where
-      abbrev before : ℕ → A
-      before = or_remnant h (lives t) (λ j. F (t.group j)) (remains t)
-
-      abbrev after : ℕ → A
-      after = or_remnant h (lives (removed t g)) (λ j. F ((removed t g).group j)) (remains (removed t g))
-
-      part_left : on_path t g ≡ true → before g ≡ after g
-      part_left i =
-          let kept : after g ≡ F (t.group g) =
-          ap (λ (v : Group). pick v.core.live (F v) (h (upd (remains t) g left g))) (upd_same groups-after g no_group)
-          ∙ ap h (upd_same (remains t) g left)
-          ∙ ap (λ b. h (kept_if b (remnant (parents t g) (depths t g) (names t g)))) i
-          ∙ keeps in
-          ap (λ b. pick b (F (t.group g)) (h (remains t g))) l ∙ sym kept
-
-      pub part_same : (x : ℕ) → on_path t x ≡ true → before x ≡ after x
-      part_same x i =
-          whether x g
-          (λ e. rw e (part_left (rw e at i)))
-          (λ ne.
-          let gone = upd_other groups-after g no_group x ne in
-          let live = ap (λ (v : Group). v.core.live) gone ∙ upd-keeps (λ (v : Group). v.core.live) t.group (parents t g) heir refl x in
-          let part = ap F gone ∙ upd-keeps F t.group (parents t g) heir same x in
-          let now : after x ≡ before x = (λ j. pick (live j) (part j) (h (upd_other (remains t) g left x ne j))) in
-          sym now)
+    parent-left : on_path t g ≡ true → path_parents t g ≡ path_parents (removed t g) g
+    parent-left i =
+        let after : path_parents (removed t g) g ≡ parents t g =
+        ap (λ (v : Group). pick v.core.live v.core.parent (remnant_parent (upd (remains t) g left g))) (upd_same groups-after g no_group)
+        ∙ ap remnant_parent (upd_same (remains t) g left)
+        ∙ ap (λ b. remnant_parent (kept_if b (remnant (parents t g) (depths t g)))) i in
+        or-live (lives t) (remains t) g remnant_parent (parents t) l ∙ sym after
 
     pub parent-same : (x : ℕ) → on_path t x ≡ true → path_parents t x ≡ path_parents (removed t g) x
-    parent-same = part_same remnant_parent (λ v. v.core.parent) refl refl
-
-    pub name-same : (x : ℕ) → on_path t x ≡ true → path_names t x ≡ path_names (removed t g) x
-    name-same = part_same remnant_name (λ v. v.name) refl refl
+    parent-same x i =
+        whether x g
+        (λ e. rw e (parent-left (rw e at i)))
+        (λ ne.
+        let gone = upd_other groups-after g no_group x ne in
+        let live = ap (λ (v : Group). v.core.live) gone ∙ upd-keeps (λ (v : Group). v.core.live) t.group (parents t g) heir refl x in
+        let parent = ap (λ (v : Group). v.core.parent) gone ∙ upd-keeps (λ (v : Group). v.core.parent) t.group (parents t g) heir refl x in
+        let after : path_parents (removed t g) x ≡ path_parents t x =
+        (λ j. pick (live j) (parent j) (remnant_parent (upd_other (remains t) g left x ne j))) in
+        sym after)
 
     pub zombies-after-remove : (a : ℕ) → standing (path_parents (removed t g)) (zombies t) a ≡ standing (path_parents t) (zombies t) a
     zombies-after-remove a = sym (standing-same (path_parents t) (path_parents (removed t g)) (zombies t) parent-same a)

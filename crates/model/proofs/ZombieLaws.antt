@@ -24,7 +24,7 @@ zombie-none (at g) h = clash true refl h
 
 pub not-removed : (r : Remnant) → is_removed r ≡ false → r ≡ no_remnant
 not-removed no_remnant h = refl
-not-removed (remnant parent depth name) h = clash true refl h
+not-removed (remnant parent depth) h = clash true refl h
 
 -- Who is there is live, or something is left of him.
 module _ (live : ℕ → Bool) (left : ℕ → Remnant) (g : ℕ) where
@@ -37,10 +37,10 @@ module _ (live : ℕ → Bool) (left : ℕ → Remnant) (g : ℕ) where
   pub there-cases : there_in live left g ≡ true → (live g ≡ true) ⊎ ((live g ≡ false) × (is_removed (left g) ≡ true))
   there-cases h = split (live g) (λ l. inl l) (λ n. inr (n, or-true (live g) _ h n))
 
-  pub or-live : {A : Type 0} (h : Remnant → A) (f : ℕ → A) → live g ≡ true → or_remnant h live f left g ≡ f g
+  pub or-live : (h : Remnant → ℕ) (f : ℕ → ℕ) → live g ≡ true → or_remnant h live f left g ≡ f g
   or-live h f l = rw l
 
-  pub or-dead : {A : Type 0} (h : Remnant → A) (f : ℕ → A) → live g ≡ false → or_remnant h live f left g ≡ h (left g)
+  pub or-dead : (h : Remnant → ℕ) (f : ℕ → ℕ) → live g ≡ false → or_remnant h live f left g ≡ h (left g)
   or-dead h f n = rw n
 
 -- The path of a zombie.

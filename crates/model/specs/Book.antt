@@ -108,7 +108,7 @@ child_after g line k c = elim (child_of g k c) [ true ↦ with_entries (limits_a
 
 -- an accepted call
 unfoldable pub enter : Book → Call → Book
-enter b (Call.make user parent new name) = enter_group b new (entry_under parent)
+enter b (Call.make user parent new) = enter_group b new (entry_under parent)
 enter b (Call.remove user g) = enter_removal b g
 enter b (Call.hand_over user g owner) = b
 enter b (Call.write_procs user g line) = enter_place b (line_process line) (at g)
@@ -125,7 +125,6 @@ enter b (Call.charge p n) =
 enter b (Call.release g n) = enter_own b g ((b.group g).own - n)
 enter b (Call.read g file buffer) = b
 enter b (Call.membership p buffer) = b
-enter b (Call.walk g path) = b
 
 -- a call and the number that it answered: "No step: a refused call"
 unfoldable pub book_step : Book → Call → ℕ → Book

@@ -1,9 +1,9 @@
 -- The calls, with their arguments as they arrive, and the checks of each in the paper's order: document 01, "Calls and the
--- order of their checks" and "What a reader sees", and orders 1, 5 and 6. A line of the paper with "either" or "or" is two entries with one
+-- order of their checks" and "What a reader sees", and orders 1 and 5. A line of the paper with "either" or "or" is two entries with one
 -- number. Assumes nothing.
 use Rattle.std.specs.Prelude.{ℕ, not, ◌&&◌, List, [], ◌∷◌, ◌++◌, eqb, leb, ltb}
 use Rattle.std.proofs.Math.Option.{Option, none, some}
-use Rattle.model.specs.Functions.{known, passes, or_else, mapped, every}
+use Rattle.model.specs.Functions.{known, passes, or_else, mapped}
 use Rattle.model.specs.Sizes.{deepest, largest_charge}
 use Rattle.model.specs.Checks.{Check, bar, need, first}
 use Rattle.model.specs.Tree.{Tree, is_live, lives, parents, depths, sets, settings_at, places, zombies}
@@ -11,7 +11,6 @@ use Rattle.model.specs.Hierarchy.{on, Facts, facts_of}
 use Rattle.model.specs.Zombies.{is_zombie, group_taken, process_taken}
 use Rattle.model.specs.Text.{too_long, line_words}
 use Rattle.model.specs.Names.{setting_named, file_named}
-use Rattle.model.specs.Paths.{good_name, names_in, path_too_long, child_named, walk_along, is_reached}
 use Rattle.model.specs.Control.{asked, is_wanted, has_bad_word, any_controller}
 use Rattle.model.specs.Settings.{setting_controller, value_of, in_range, has_room}
 use Rattle.model.specs.Rooms.{room_for, is_full, shortage}
@@ -24,9 +23,9 @@ use Rattle.model.specs.declared.SettingValue.{SettingValue}
 use Rattle.model.specs.declared.Errno.TheVariants.{Enoent, Esrch, Eagain, Eacces, Ebusy, Eexist, Einval, Enospc, Erange}
 use Rattle.model.specs.declared.Answer.{Answer}
 
--- Lines, names, paths and reply buffers are bytes of any content and length.
+-- Lines, file names and reply buffers are bytes of any content and length.
 pub data Call : Type 0 where
-  make : (user parent new : ℕ) (name : List ℕ) → Call
+  make : (user parent new : ℕ) → Call
   remove : (user g : ℕ) → Call
   hand_over : (user g owner : ℕ) → Call
   write_procs : (user g : ℕ) (line : List ℕ) → Call
@@ -40,7 +39,6 @@ pub data Call : Type 0 where
   release : (g n : ℕ) → Call
   read : (g : ℕ) (file buffer : List ℕ) → Call
   membership : (p : ℕ) (buffer : List ℕ) → Call
-  walk : (g : ℕ) (path : List ℕ) → Call
 
 -- the value that a line gives the setting of that name
 abbrev pub setting_value : Option Setting → List ℕ → Option SettingValue
@@ -91,23 +89,12 @@ device_check t g file line = need (passes (line_value file line) (has_room (sett
 abbrev pub room_check : Facts → Resource → ℕ → ℕ → List Check
 room_check f r n p = bar (is_full (room_for f r n (process_group f.tree p))) (shortage r) ∷ []
 
--- the same of a walk: "22 and 2 as in read, first", then "22 for a path over 1,024 bytes or with a bad name, tested before the walk"
-unfoldable pub walk_checks : Tree → ℕ → List ℕ → List Check
-walk_checks t g path =
-    bar (no_group_number g) Einval
-    ∷ need (lives t g) Enoent
-    ∷ bar (path_too_long path) Einval
-    ∷ need (every good_name (names_in path)) Einval
-    ∷ []
-
 unfoldable pub checks : Facts → Call → List Check
-checks f (make user parent new name) =
+checks f (make user parent new) =
     bar (no_group_number parent) Einval
     ∷ bar (no_group_number new) Einval
-    ∷ need (good_name name) Einval
     ∷ need (lives f.tree parent) Enoent
     ∷ bar (group_taken f.tree new) Eexist
-    ∷ bar (known (child_named f.tree parent name)) Eexist
     ∷ need (may_write f.tree user parent) Eacces
     ∷ bar (leb deepest (depths f.tree parent)) Eagain
     ∷ []
@@ -178,7 +165,6 @@ checks f (membership p buffer) =
     need (process_taken f.tree p) Esrch
     ∷ need (fits (membership_line f.tree p) buffer) Enospc
     ∷ []
-checks f (walk g path) = walk_checks f.tree g path ++ (need (is_reached (walk_along f.tree g path)) Enoent ∷ [])
 
 -- what a call answers: success, or the number of the first check that refuses
 abbrev pub verdict_by : Facts → Call → Answer

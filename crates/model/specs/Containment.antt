@@ -10,7 +10,7 @@ use Rattle.model.specs.Lists.{Accepted, Each, Never}
 
 -- the user that makes a call, where one does
 abbrev pub caller : Call → Option ℕ
-caller (Call.make user parent new name) = some user
+caller (Call.make user parent new) = some user
 caller (Call.remove user g) = some user
 caller (Call.hand_over user g owner) = some user
 caller (Call.write_procs user g line) = some user
@@ -24,7 +24,6 @@ caller (Call.charge p n) = none
 caller (Call.release g n) = none
 caller (Call.read g file buffer) = none
 caller (Call.membership p buffer) = none
-caller (Call.walk g path) = none
 
 -- "all of whose groups lie inside one handed-over part": the part is d and all below it
 abbrev pub OwnsInside : Tree → ℕ → ℕ → Type 0

@@ -33,7 +33,6 @@ use Rattle.model.specs.DeviceBook.{no_account, account_of, account_after, Accoun
 use Rattle.model.specs.DeviceReplies.{DeviceRefusal, DeviceReading}
 use Rattle.model.specs.Lengths.{Lengths, ListingReached}
 use Rattle.model.specs.ZombieRules.{LineStands, Taken}
-use Rattle.model.specs.PathRules.{PathTexts, PathRules}
 use Rattle.model.specs.declared.Resource.{Resource}
 use Rattle.model.specs.declared.Resource.TheVariants.{Pages, Processes}
 use Rattle.model.specs.declared.Limit.{Limit}
@@ -128,13 +127,13 @@ StoppedAt t r n g h k =
 -- number is 12 of a charge or 11 of a fork.
 pub record Counted (t : Tree) : Type 0 where
   pub success : (r : Resource) (n p : ℕ) (c : Call) → Asks r n p c → (reply t c).number ≡ 0
-      → ((reply t c).count ≡ suc (depths t (process_group t p))) × ((reply t c).group ≡ none)
+      → ((reply t c).consulted ≡ suc (depths t (process_group t p))) × ((reply t c).group ≡ none)
   pub stopped : (r : Resource) (n p h : ℕ) (c : Call) → Asks r n p c → (reply t c).group ≡ some h
-      → ((reply t c).number ≡ errno_number (shortage r)) × StoppedAt t r n (process_group t p) h (reply t c).count
+      → ((reply t c).number ≡ errno_number (shortage r)) × StoppedAt t r n (process_group t p) h (reply t c).consulted
   pub named : (r : Resource) (n p : ℕ) (c : Call) → Asks r n p c → (reply t c).number ≡ errno_number (shortage r)
-      → (h : ℕ) × ((reply t c).group ≡ some h) × StoppedAt t r n (process_group t p) h (reply t c).count
+      → (h : ℕ) × ((reply t c).group ≡ some h) × StoppedAt t r n (process_group t p) h (reply t c).consulted
   pub other : (r : Resource) (n p : ℕ) (c : Call) → Asks r n p c → (reply t c).number ≢ 0 → (reply t c).group ≡ none
-      → (reply t c).count ≡ 0
+      → (reply t c).consulted ≡ 0
 
 -- "the lowest group that is on both chains"
 pub record Lowest (t : Tree) : Type 0 where
@@ -176,9 +175,6 @@ pub record Demand2 : Type 0 where
   -- order 5: a zombie's membership line stands still, and when a removed group's number is taken (specs/ZombieRules.antt)
   pub zombie_line : (t : Tree) → WellFormed t → LineStands t
   pub taken : (t : Tree) → WellFormed t → Taken t
-  -- order 6: names, paths and walks (specs/PathRules.antt)
-  pub path_texts : PathTexts
-  pub paths : (t : Tree) → WellFormed t → PathRules t
 
 -- Demand 3.
 -- "tree and book are alike in live groups, parents, own pages, usage, both limits, each live process's group and the live

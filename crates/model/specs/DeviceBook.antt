@@ -69,7 +69,7 @@ child_rates g line k c l = pick (child_of g k c) (pick (is_dropped (asked line I
 
 -- an accepted call, where the groups were these
 unfoldable pub enter_rates : (ℕ → Core) → Account → Call → Account
-enter_rates group a (Call.make user parent new name) = upd a new no_rates
+enter_rates group a (Call.make user parent new) = upd a new no_rates
 enter_rates group a (Call.remove user g) = upd a g no_rates
 enter_rates group a (Call.hand_over user g owner) = a
 enter_rates group a (Call.write_procs user g line) = a
@@ -83,7 +83,6 @@ enter_rates group a (Call.charge p n) = a
 enter_rates group a (Call.release g n) = a
 enter_rates group a (Call.read g file buffer) = a
 enter_rates group a (Call.membership p buffer) = a
-enter_rates group a (Call.walk g path) = a
 
 -- a call and the number that it answered; a refused call is no step
 unfoldable pub account_step : Book → Account → Entry → Account

@@ -4,8 +4,8 @@ use Rattle.std.specs.Prelude.{ℕ, List, [], ◌∷◌, ◌++◌, map, drop, rep
 use Prim.Native.String.{String}
 use Rattle.std.proofs.Math.Option.{none}
 use Rattle.model.specs.Text.{bytes}
-use Rattle.model.specs.Calls.{Call, remove, hand_over, write_setting, admit, fork, charge, release, read}
-use Rattle.model.specs.Worked.{make, Exchange, exchange, succeeds, refuses, granted, reads, setting, control, procs, Evening, evening}
+use Rattle.model.specs.Calls.{Call, make, remove, hand_over, write_setting, admit, fork, charge, release, read}
+use Rattle.model.specs.Worked.{Exchange, exchange, succeeds, refuses, granted, reads, setting, control, procs, Evening, evening}
 use Rattle.model.specs.Refusals.{all_succeed, all_get, all_controllers, padded, unread, begun}
 use Rattle.model.specs.Outcomes.{fills, overflows}
 

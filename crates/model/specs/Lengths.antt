@@ -1,5 +1,5 @@
--- How long two replies can get: order 4, "the longest cgroup.procs reply becomes 4,013 bytes", and what its depth, order 6's names and
--- order 5's " (deleted)" make of the membership line. Assumes nothing.
+-- How long two replies can get: order 4, "the longest cgroup.procs reply becomes 4,013 bytes", and what its sizes and order 5's
+-- " (deleted)" make of the membership line. Assumes nothing.
 use Rattle.std.specs.Prelude.{ℕ, zero, suc, ◌-◌, ◌≤◌, true, List, [], ◌∷◌, ◌≢◌, ◌≡◌, length}
 use Rattle.model.specs.Sizes.{processes, longest_listing, longest_live_membership, longest_membership}
 use Rattle.model.specs.Tree.{Tree, is_live, places}
@@ -25,7 +25,7 @@ unfoldable pub admissions : ℕ → ℕ → ℕ → List Call
 admissions user p zero = []
 admissions user p (suc n) = admit p user ∷ admissions user (suc p) n
 
--- "the longest": where every process was admitted, the root shows as much. That a membership line is as long is a case of NameEvenings.antt.
+-- "the longest": where every process was admitted, the root shows as much. That a membership line is as long is a case of ZombieEvenings.antt.
 abbrev pub ListingReached : Type 0
 ListingReached =
     (m user : ℕ) → length (contents (facts_of (run (fresh m) (admissions user 1 (processes - 1)))) 0 Procs) ≡ longest_listing

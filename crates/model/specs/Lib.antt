@@ -8,7 +8,6 @@ pub mod Zombies
 pub mod CommonAncestor
 pub mod Text
 pub mod Names
-pub mod Paths
 pub mod Control
 pub mod Words
 pub mod Figures
@@ -32,7 +31,6 @@ pub mod DeviceBook
 pub mod DeviceReplies
 pub mod Lengths
 pub mod ZombieRules
-pub mod PathRules
 pub mod Demands
 pub mod Worked
 pub mod Refusals
@@ -40,4 +38,3 @@ pub mod Meetings
 pub mod Outcomes
 pub mod DeviceEvenings
 pub mod ZombieEvenings
-pub mod NameEvenings

@@ -4,9 +4,9 @@ use Rattle.std.specs.Prelude.{ℕ, Bool, true, false, ◌&&◌, List, [], ◌∷
 use Rattle.model.specs.Functions.{passes}
 use Rattle.model.specs.Tree.{Tree}
 use Rattle.model.specs.CommonAncestor.{smaller_depth, meeting, entry_at, walk}
-use Rattle.model.specs.Calls.{Call}
+use Rattle.model.specs.Calls.{Call, make}
 use Rattle.model.specs.Effects.{fresh, run}
-use Rattle.model.specs.Worked.{make, delegation, first_calls}
+use Rattle.model.specs.Worked.{delegation, first_calls}
 use Rattle.model.specs.Refusals.{descent}
 use Rattle.model.specs.declared.Meeting.{Meeting}
 

@@ -5,8 +5,8 @@ use Rattle.std.specs.Prelude.{ℕ, List, [], ◌∷◌, ◌++◌, map, length, r
 use Prim.Native.String.{String}
 use Rattle.std.proofs.Math.Option.{none}
 use Rattle.model.specs.Text.{bytes}
-use Rattle.model.specs.Calls.{remove, hand_over, write_setting, admit, fork, exit, collect, charge, release, read, membership}
-use Rattle.model.specs.Worked.{make, Exchange, exchange, succeeds, refuses, granted, stopped, reads, belongs, setting, control, procs, Evening, evening}
+use Rattle.model.specs.Calls.{make, remove, hand_over, write_setting, admit, fork, exit, collect, charge, release, read, membership}
+use Rattle.model.specs.Worked.{Exchange, exchange, succeeds, refuses, granted, stopped, reads, belongs, setting, control, procs, Evening, evening}
 use Rattle.model.specs.Refusals.{all_succeed, all_get, all_controllers, unread, begun, descent, deep_chain, deep_line}
 
 -- a text that fills its buffer, and one that does not fit into n bytes
@@ -145,7 +145,7 @@ ends =
     ++ all_succeed (hand_over 0 255 7 ∷ make 7 255 254 ∷ remove 7 254 ∷ remove 0 255 ∷ []))
 
 -- The longest chain. A process at depth 16 is counted in the group at depth 1 and stopped by its limits; its move to another child of that
--- group asks who owns the group. The line of a process there fits its 68 bytes, and not 67.
+-- group asks who owns the group. The longest line of a live process fits its 68 bytes, and not 67.
 abbrev pub far_up : Evening
 far_up =
     evening 8

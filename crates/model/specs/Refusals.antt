@@ -6,8 +6,8 @@ use Rattle.std.specs.Prelude.{ℕ, ◌-◌, List, [], ◌∷◌, ◌++◌, map, 
 use Prim.Native.String.{String}
 use Rattle.std.proofs.Math.Option.{none}
 use Rattle.model.specs.Text.{bytes, space, ended}
-use Rattle.model.specs.Calls.{Call, remove, hand_over, write_procs, write_control, write_setting, admit, fork, exit, collect, charge, release, read, membership}
-use Rattle.model.specs.Worked.{make, Exchange, exchange, succeeds, refuses, granted, stopped, sentinels, reads, belongs, setting, control, procs, Evening, evening}
+use Rattle.model.specs.Calls.{Call, make, remove, hand_over, write_procs, write_control, write_setting, admit, fork, exit, collect, charge, release, read, membership}
+use Rattle.model.specs.Worked.{Exchange, exchange, succeeds, refuses, granted, stopped, sentinels, reads, belongs, setting, control, procs, Evening, evening}
 
 -- calls that all succeed, and calls that all get one number
 abbrev pub all_succeed : List Call → List Exchange
@@ -60,7 +60,7 @@ descent above (g ∷ gs) = make 0 above g ∷ descent g gs
 abbrev pub deep_chain : List ℕ
 deep_chain = 240 ∷ 241 ∷ 242 ∷ 243 ∷ 244 ∷ 245 ∷ 246 ∷ 247 ∷ 248 ∷ 249 ∷ 250 ∷ 251 ∷ 252 ∷ 253 ∷ 254 ∷ 255 ∷ []
 
--- the membership line there
+-- the membership line there, the longest of a live process
 abbrev pub deep_line : String
 deep_line = "0::/240/241/242/243/244/245/246/247/248/249/250/251/252/253/254/255\n"
 

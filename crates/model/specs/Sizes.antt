@@ -1,4 +1,4 @@
--- The sizes of document 01, "What the host keeps" and "Lines", and of orders 1, 4, 5 and 6, each named once. Assumes nothing.
+-- The sizes of document 01, "What the host keeps" and "Lines", and of orders 1, 4 and 5, each named once. Assumes nothing.
 use Rattle.std.specs.Prelude.{ℕ}
 
 -- order 4: group numbers are below this: "Groups go to 0 to 255"
@@ -17,21 +17,13 @@ deepest = 16
 abbrev pub longest_listing : ℕ
 longest_listing = 4013
 
--- order 6: "a name of 1 to 31 bytes"
-abbrev pub longest_name : ℕ
-longest_name = 31
-
--- "22 for a path over 1,024 bytes"
-abbrev pub longest_path : ℕ
-longest_path = 1024
-
--- no membership line of a live process is longer: "0::", for each level a "/" and a name, and a newline
+-- and no membership line of a live process is longer: "0::", for each level a "/" and a number, and a newline
 abbrev pub longest_live_membership : ℕ
-longest_live_membership = 516
+longest_live_membership = 68
 
 -- nor any other: with order 5's " (deleted)"
 abbrev pub longest_membership : ℕ
-longest_membership = 526
+longest_membership = 78
 
 -- "pages of 4,096 bytes"
 abbrev pub page_bytes : ℕ

@@ -18,7 +18,7 @@ pub data Flow : Type 0 where
   collected : Flow
 
 abbrev pub flow : Call → Flow
-flow (Call.make user parent new name) = none
+flow (Call.make user parent new) = none
 flow (Call.remove user g) = none
 flow (Call.hand_over user g owner) = none
 flow (Call.write_procs user g line) = none
@@ -32,7 +32,6 @@ flow (Call.charge p n) = into Pages n
 flow (Call.release g n) = out Pages n
 flow (Call.read g file buffer) = none
 flow (Call.membership p buffer) = none
-flow (Call.walk g path) = none
 
 -- n where the two are one resource
 abbrev pub of_resource : Resource → Resource → ℕ → ℕ

@@ -1,4 +1,4 @@
--- The tree: document 01, "What the host keeps", and orders 1, 5 and 6. Every field is a function of the number, and a number of which nothing is
+-- The tree: document 01, "What the host keeps", and orders 1 and 5. Every field is a function of the number, and a number of which nothing is
 -- kept has one blank value, so that one tree has one description. Assumes nothing.
 use Rattle.std.specs.Prelude.{ℕ, Bool, true, false, List, []}
 use Rattle.model.specs.Functions.{upd}
@@ -32,11 +32,9 @@ pub record CpuSettings : Type 0 where
   pub quota : Limit
   pub period : ℕ
 
--- `name` is order 6's, as bytes; the root has none.
 pub record Group : Type 0 where
   pub core : Core
   pub depth : ℕ
-  pub name : List ℕ
   pub owner : ℕ
   pub set : Controls
   pub cpu : CpuSettings
@@ -55,7 +53,7 @@ pub record Process : Type 0 where
 -- zombie's membership line needs.
 pub data Remnant : Type 0 where
   no_remnant : Remnant
-  remnant : (parent depth : ℕ) (name : List ℕ) → Remnant
+  remnant : (parent depth : ℕ) → Remnant
 
 -- What is kept of the dead: where each zombie ended, nowhere for a number that is no zombie's; and what is left of each group.
 pub record Past : Type 0 where
@@ -78,7 +76,7 @@ no_controls c = false
 
 abbrev pub no_group : Group
 no_group =
-    record { core = no_core; depth = 0; name = []; owner = 0; set = no_controls; cpu = record { weight = 0; quota = NoLimit; period = 0 }; io = [] }
+    record { core = no_core; depth = 0; owner = 0; set = no_controls; cpu = record { weight = 0; quota = NoLimit; period = 0 }; io = [] }
 
 abbrev pub no_process : Process
 no_process = record { place = nowhere; user = 0 }
@@ -91,9 +89,9 @@ default_cpu = record { weight = 100; quota = NoLimit; period = 100000 }
 abbrev pub new_core : ℕ → Core
 new_core parent = record { live = true; parent = parent; own = 0; limit = λ r. NoLimit }
 
-abbrev pub new_group : ℕ → ℕ → List ℕ → ℕ → Group
-new_group parent depth name owner =
-    record { core = new_core parent; depth = depth; name = name; owner = owner; set = no_controls; cpu = default_cpu; io = [] }
+abbrev pub new_group : ℕ → ℕ → ℕ → Group
+new_group parent depth owner =
+    record { core = new_core parent; depth = depth; owner = owner; set = no_controls; cpu = default_cpu; io = [] }
 
 -- One part of a group changed.
 abbrev pub with_own : ℕ → Core → Core
@@ -103,13 +101,13 @@ abbrev pub with_limits : (Resource → Limit) → Core → Core
 with_limits l c = record { live = c.live; parent = c.parent; own = c.own; limit = l }
 
 abbrev pub with_core : Core → Group → Group
-with_core c g = record { core = c; depth = g.depth; name = g.name; owner = g.owner; set = g.set; cpu = g.cpu; io = g.io }
+with_core c g = record { core = c; depth = g.depth; owner = g.owner; set = g.set; cpu = g.cpu; io = g.io }
 
 abbrev pub with_owner : ℕ → Group → Group
-with_owner o g = record { core = g.core; depth = g.depth; name = g.name; owner = o; set = g.set; cpu = g.cpu; io = g.io }
+with_owner o g = record { core = g.core; depth = g.depth; owner = o; set = g.set; cpu = g.cpu; io = g.io }
 
 abbrev pub with_set : Controls → Group → Group
-with_set s g = record { core = g.core; depth = g.depth; name = g.name; owner = g.owner; set = s; cpu = g.cpu; io = g.io }
+with_set s g = record { core = g.core; depth = g.depth; owner = g.owner; set = s; cpu = g.cpu; io = g.io }
 
 -- The settings of a group, taken together; `io` is the table of io.max.
 pub record Settings : Type 0 where
@@ -122,7 +120,7 @@ settings_of g = record { limit = g.core.limit; cpu = g.cpu; io = g.io }
 
 abbrev pub with_settings : Settings → Group → Group
 with_settings s g =
-    record { core = with_limits s.limit g.core; depth = g.depth; name = g.name; owner = g.owner; set = g.set; cpu = s.cpu; io = s.io }
+    record { core = with_limits s.limit g.core; depth = g.depth; owner = g.owner; set = g.set; cpu = s.cpu; io = s.io }
 
 -- the settings of a group when it is made: "Settings and defaults"; in io.max no device
 abbrev pub new_settings : Settings
@@ -167,9 +165,6 @@ parents t g = (t.group g).core.parent
 
 abbrev pub depths : Tree → ℕ → ℕ
 depths t g = (t.group g).depth
-
-abbrev pub names : Tree → ℕ → List ℕ
-names t g = (t.group g).name
 
 abbrev pub owners : Tree → ℕ → ℕ
 owners t g = (t.group g).owner

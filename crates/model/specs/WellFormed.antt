@@ -1,11 +1,10 @@
 -- The rules that every tree keeps which calls can reach, as small records over the functions they speak of: document 01,
--- "What the host keeps", and orders 5 and 6. Assumes nothing.
-use Rattle.std.specs.Prelude.{ℕ, suc, ◌≤◌, ◌<◌, Bool, true, false, List, [], ◌≢◌, ◌≡◌}
+-- "What the host keeps", and order 5. Assumes nothing.
+use Rattle.std.specs.Prelude.{ℕ, suc, ◌≤◌, ◌<◌, Bool, true, false, ◌≢◌, ◌≡◌}
 use Rattle.model.specs.Sizes.{groups, processes, deepest, largest_machine}
-use Rattle.model.specs.Tree.{Tree, Group, Process, Place, nowhere, at, Controls, Settings, no_group, no_process, Past, Remnant, no_remnant, is_live, cores, lives, parents, depths, names, owners, sets, settings_at, places}
+use Rattle.model.specs.Tree.{Tree, Group, Process, Place, nowhere, at, Controls, Settings, no_group, no_process, Past, no_remnant, is_live, cores, lives, parents, depths, owners, sets, settings_at, places}
 use Rattle.model.specs.Hierarchy.{on_in, usage}
-use Rattle.model.specs.Zombies.{is_removed, remnant_parent, remnant_depth, remnant_name, there_in, or_remnant, on_path_in}
-use Rattle.model.specs.Paths.{good_name}
+use Rattle.model.specs.Zombies.{is_removed, remnant_parent, remnant_depth, there_in, or_remnant, on_path_in}
 use Rattle.model.specs.Settings.{AtDefault, Allowed}
 use Rattle.model.specs.declared.Controller.{Controller}
 
@@ -55,14 +54,6 @@ pub record Remembered (live : ℕ → Bool) (parent depth : ℕ → ℕ) (place 
   pub group : (g : ℕ) → live g ≡ true → d.remains g ≡ no_remnant
   pub process : (p : ℕ) → is_live (place p) ≡ true → d.zombie p ≡ nowhere
 
--- Order 6: the names of live groups and of those of which something is left are well formed, and live siblings' are apart; the root has
--- none.
-pub record Named (live : ℕ → Bool) (parent : ℕ → ℕ) (name : ℕ → List ℕ) (remains : ℕ → Remnant) : Type 0 where
-  pub root : name 0 ≡ []
-  pub formed : (g : ℕ) → live g ≡ true → g ≢ 0 → good_name (name g) ≡ true
-  pub kept : (g : ℕ) → is_removed (remains g) ≡ true → good_name (remnant_name (remains g)) ≡ true
-  pub apart : (g h : ℕ) → live g ≡ true → live h ≡ true → g ≢ 0 → h ≢ 0 → parent g ≡ parent h → name g ≡ name h → g ≡ h
-
 -- "the root's is always 0": its owner
 abbrev pub RootOwned : (ℕ → ℕ) → Type 0
 RootOwned owner = owner 0 ≡ 0
@@ -81,6 +72,5 @@ pub record WellFormed (t : Tree) : Type 0 where
   pub quiet : NoInternalProcesses (places t) (sets t)
   pub blank : Blank t.group t.process
   pub past : Remembered (lives t) (parents t) (depths t) (places t) t.past
-  pub named : Named (lives t) (parents t) (names t) t.past.remains
   pub owned : RootOwned (owners t)
   pub sized : Sized t.machine (usage (cores t) 0)

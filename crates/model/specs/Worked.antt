@@ -6,8 +6,8 @@ use Rattle.std.specs.Prelude.{ℕ, Bool, true, false, ◌&&◌, List, [], ◌∷
 use Prim.Native.String.{String}
 use Rattle.std.proofs.Math.Option.{Option, none, some}
 use Rattle.model.specs.Tree.{Tree}
-use Rattle.model.specs.Text.{bytes, same_bytes, decimal}
-use Rattle.model.specs.Calls.{Call, remove, hand_over, write_procs, write_control, write_setting, admit, exit, charge, release, read, membership}
+use Rattle.model.specs.Text.{bytes, same_bytes}
+use Rattle.model.specs.Calls.{Call, make, remove, hand_over, write_procs, write_control, write_setting, admit, exit, charge, release, read, membership}
 use Rattle.model.specs.Effects.{step, fresh}
 use Rattle.model.specs.Replies.{Reply, reply}
 use Rattle.model.specs.Book.{Book, in_book, fresh_book, Entry}
@@ -23,11 +23,7 @@ pub record Exchange : Type 0 where
   pub expected : Reply
 
 abbrev pub exchange : Call → ℕ → Option ℕ → ℕ → ℕ → List ℕ → Exchange
-exchange c n g k l b = record { call = c; expected = record { number = n; group = g; count = k; size = l; buffer = b } }
-
--- a group made with its number in decimal as its name, wherever a case is not about names
-abbrev pub make : ℕ → ℕ → ℕ → Call
-make user parent new = Call.make user parent new (decimal new)
+exchange c n g k l b = record { call = c; expected = record { number = n; group = g; consulted = k; size = l; buffer = b } }
 
 -- success, or a number, with nothing to tell
 abbrev pub succeeds : Call → Exchange
@@ -87,7 +83,7 @@ abbrev pub same_reply : Reply → Reply → Bool
 same_reply a b =
     eqb a.number b.number
     && (same_option a.group b.group
-    && (eqb a.count b.count && (eqb a.size b.size && same_bytes a.buffer b.buffer)))
+    && (eqb a.consulted b.consulted && (eqb a.size b.size && same_bytes a.buffer b.buffer)))
 
 unfoldable pub holds : Tree → List Exchange → Bool
 holds t [] = true
@@ -183,15 +179,15 @@ delegation =
     ∷ reads 5 "cgroup.procs" "9\n"
     ∷ [])
 
--- P11, with order 6's names
+-- P11
 abbrev pub membership_path : Evening
 membership_path =
     evening 0
-    (succeeds (Call.make 0 0 3 (bytes "tape-3"))
-    ∷ succeeds (Call.make 0 3 7 (bytes "b"))
+    (succeeds (make 0 0 3)
+    ∷ succeeds (make 0 3 7)
     ∷ succeeds (admit 1 0)
     ∷ succeeds (procs 0 7 "1")
-    ∷ belongs 1 "0::/tape-3/b\n"
+    ∷ belongs 1 "0::/3/7\n"
     ∷ [])
 
 unfoldable pub table : List Evening

@@ -4,9 +4,10 @@
 use Rattle.std.specs.Prelude.{ℕ, List, [], ◌∷◌, ◌++◌, map, reverse, length, drop, replicate}
 use Prim.Native.String.{String}
 use Rattle.std.proofs.Math.Option.{none}
+use Rattle.model.specs.Sizes.{longest_membership}
 use Rattle.model.specs.Text.{bytes}
-use Rattle.model.specs.Calls.{remove, hand_over, write_procs, admit, fork, exit, collect, charge, release, membership}
-use Rattle.model.specs.Worked.{make, Exchange, exchange, succeeds, refuses, granted, stopped, reads, belongs, setting, control, procs, Evening, evening}
+use Rattle.model.specs.Calls.{make, remove, hand_over, write_procs, admit, fork, exit, collect, charge, release, membership}
+use Rattle.model.specs.Worked.{Exchange, exchange, succeeds, refuses, granted, stopped, reads, belongs, setting, control, procs, Evening, evening}
 use Rattle.model.specs.Refusals.{all_succeed, all_get, padded, unknown, begun, descent, deep_chain}
 use Rattle.model.specs.Outcomes.{fills, absent}
 
@@ -192,22 +193,22 @@ line_lengths =
     ++ fills_line 5 "0::/1/2\n" ∷ overflows_line 5 7 ∷ succeeds (remove 7 2) ∷ overflows_line 5 8 ∷ overflows_line 5 17 ∷ []
     ++ fills_line 5 "0::/1/2 (deleted)\n" ∷ succeeds (collect 5) ∷ unknown 5 3 ∷ [])
 
--- the membership line of a zombie that ended at the end of `deep_chain`
+-- the membership line of a zombie that ended at the end of `deep_chain`, the longest that there is
 abbrev pub removed_line : String
 removed_line = "0::/240/241/242/243/244/245/246/247/248/249/250/251/252/253/254/255 (deleted)\n"
 
--- 17 before 11, and 2 before 11 where the parent was removed. The line of the deepest zombie fits its 78 bytes, and not 77: all
--- sixteen groups of the longest chain are removed, from the bottom, and the highest is taken as the lowest is.
-abbrev pub deepest_path : Evening
-deepest_path =
+-- 17 before 11, and 2 before 11 where the parent was removed. The longest line fits its 78 bytes, and not 77: all sixteen groups of
+-- the longest chain are removed, from the bottom, and the highest is taken as the lowest is.
+abbrev pub longest_path : Evening
+longest_path =
     evening 0
     (all_succeed (descent 0 deep_chain ++ make 0 254 1 ∷ admit 5 0 ∷ procs 0 255 "5" ∷ exit 5 ∷ remove 0 255 ∷ [])
     ++ refuses (make 0 1 255) 17 ∷ refuses (make 0 1 2) 11 ∷ refuses (make 0 255 2) 2 ∷ succeeds (remove 0 1) ∷ []
     ++ all_succeed (map (remove 0) (drop 1 (reverse deep_chain)))
-    ++ overflows_line 5 77 ∷ exchange (membership 5 (replicate 78 1)) 0 none 0 78 (bytes removed_line) ∷ []
+    ++ overflows_line 5 77 ∷ exchange (membership 5 (replicate longest_membership 1)) 0 none 0 78 (bytes removed_line) ∷ []
     ++ refuses (make 0 0 240) 17 ∷ [])
 
 unfoldable pub zombie_evenings : List Evening
 zombie_evenings =
     collecting ∷ named_in_calls ∷ number_taken ∷ uncounted ∷ no_inner_process ∷ removed_number ∷ removed_chain ∷ lower_first ∷ upper_first
-    ∷ made_again ∷ under_live ∷ three_levels ∷ beside ∷ line_lengths ∷ deepest_path ∷ []
+    ∷ made_again ∷ under_live ∷ three_levels ∷ beside ∷ line_lengths ∷ longest_path ∷ []

@@ -44,13 +44,13 @@ LineStands t =
 
 -- the test for a taken number among the checks of make: its place, the checks before it and those after it
 abbrev pub taken_place : ℕ
-taken_place = 4
+taken_place = 3
 
-abbrev pub before_taken : Tree → ℕ → ℕ → ℕ → List ℕ → List Check
-before_taken t user parent new name = take taken_place (checks (facts_of t) (make user parent new name))
+abbrev pub before_taken : Tree → ℕ → ℕ → ℕ → List Check
+before_taken t user parent new = take taken_place (checks (facts_of t) (make user parent new))
 
-abbrev pub after_taken : Tree → ℕ → ℕ → ℕ → List ℕ → List Check
-after_taken t user parent new name = drop (suc taken_place) (checks (facts_of t) (make user parent new name))
+abbrev pub after_taken : Tree → ℕ → ℕ → ℕ → List Check
+after_taken t user parent new = drop (suc taken_place) (checks (facts_of t) (make user parent new))
 
 -- "A removed group's number can be made again as soon as no zombie's path runs through it; until then make answers 17."
 pub record Taken (t : Tree) : Type 0 where
@@ -64,9 +64,9 @@ pub record Taken (t : Tree) : Type 0 where
   pub freed : (g p : ℕ) → lives t g ≡ false → is_zombie (zombies t p) ≡ true
       → ((q h : ℕ) → q ≢ p → zombies t q ≡ at h → inside (path_parents t) g h ≡ false) → group_taken (step t (collect p)) g ≡ false
   -- what make makes of it: 17 where the checks before pass, else the other checks alone decide
-  pub asked : (user parent new : ℕ) (name : List ℕ)
-      → checks (facts_of t) (make user parent new name) ≡ before_taken t user parent new name ++ (bar (group_taken t new) Eexist ∷ after_taken t user parent new name)
-  pub refused : (user parent new : ℕ) (name : List ℕ) → Pass (before_taken t user parent new name) → group_taken t new ≡ true
-      → verdict t (make user parent new name) ≡ Refused Eexist
-  pub decided : (user parent new : ℕ) (name : List ℕ) → group_taken t new ≡ false
-      → verdict t (make user parent new name) ≡ first (before_taken t user parent new name ++ after_taken t user parent new name)
+  pub asked : (user parent new : ℕ)
+      → checks (facts_of t) (make user parent new) ≡ before_taken t user parent new ++ (bar (group_taken t new) Eexist ∷ after_taken t user parent new)
+  pub refused : (user parent new : ℕ) → Pass (before_taken t user parent new) → group_taken t new ≡ true
+      → verdict t (make user parent new) ≡ Refused Eexist
+  pub decided : (user parent new : ℕ) → group_taken t new ≡ false
+      → verdict t (make user parent new) ≡ first (before_taken t user parent new ++ after_taken t user parent new)

@@ -1,10 +1,10 @@
 -- Zombies, and the paths that they keep: order 5, "Processes that have ended but were not collected", and source document 000,
 -- 2-2. A zombie keeps the number of its group and no more; a removed group on its path keeps what the membership line needs, its
--- parent, its depth and, from order 6, its name. Assumes nothing.
-use Rattle.std.specs.Prelude.{ℕ, Bool, true, false, ◌||◌, List, []}
+-- parent and its depth. Assumes nothing.
+use Rattle.std.specs.Prelude.{ℕ, Bool, true, false, ◌||◌}
 use Rattle.model.specs.Functions.{pick, any}
 use Rattle.model.specs.Sizes.{processes}
-use Rattle.model.specs.Tree.{Tree, Place, nowhere, at, Remnant, no_remnant, remnant, is_live, group_of, lives, parents, depths, names, places, zombies, remains}
+use Rattle.model.specs.Tree.{Tree, Place, nowhere, at, Remnant, no_remnant, remnant, is_live, group_of, lives, parents, depths, places, zombies, remains}
 use Rattle.model.specs.Hierarchy.{inside}
 
 -- whether a number is a zombie's, by where it ended
@@ -15,39 +15,32 @@ is_zombie (at g) = true
 -- whether anything is left of a group, and what
 abbrev pub is_removed : Remnant → Bool
 is_removed no_remnant = false
-is_removed (remnant parent depth name) = true
+is_removed (remnant parent depth) = true
 
 abbrev pub remnant_parent : Remnant → ℕ
 remnant_parent no_remnant = 0
-remnant_parent (remnant parent depth name) = parent
+remnant_parent (remnant parent depth) = parent
 
 abbrev pub remnant_depth : Remnant → ℕ
 remnant_depth no_remnant = 0
-remnant_depth (remnant parent depth name) = depth
-
-abbrev pub remnant_name : Remnant → List ℕ
-remnant_name no_remnant = []
-remnant_name (remnant parent depth name) = name
+remnant_depth (remnant parent depth) = depth
 
 -- A group is there if it is live, or if something is left of it. What is asked of a live group, or else of what is left.
 abbrev pub there_in : (ℕ → Bool) → (ℕ → Remnant) → ℕ → Bool
 there_in live remains g = live g || is_removed (remains g)
 
-abbrev pub or_remnant : {A : Type 0} → (Remnant → A) → (ℕ → Bool) → (ℕ → A) → (ℕ → Remnant) → ℕ → A
+abbrev pub or_remnant : (Remnant → ℕ) → (ℕ → Bool) → (ℕ → ℕ) → (ℕ → Remnant) → ℕ → ℕ
 or_remnant h live f remains g = pick (live g) (f g) (h (remains g))
 
 abbrev pub there : Tree → ℕ → Bool
 there t = there_in (lives t) (remains t)
 
--- the parents, the depths and the names of groups that are there: a path runs along them
+-- the parents and the depths of groups that are there: a path runs along them
 abbrev pub path_parents : Tree → ℕ → ℕ
 path_parents t = or_remnant remnant_parent (lives t) (parents t) (remains t)
 
 abbrev pub path_depths : Tree → ℕ → ℕ
 path_depths t = or_remnant remnant_depth (lives t) (depths t) (remains t)
-
-abbrev pub path_names : Tree → ℕ → List ℕ
-path_names t = or_remnant remnant_name (lives t) (names t) (remains t)
 
 -- whether the path of a zombie that ended there runs through g
 abbrev pub runs_through : (ℕ → ℕ) → ℕ → Place → Bool

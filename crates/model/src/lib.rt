@@ -93,7 +93,7 @@ pub enum File {
 // The numbers that the host says no with, by their names in document 01's table.
 #[derive(Drop)]
 pub enum Errno {
-    // 2 group not live, file absent there, controller not available, name not found
+    // 2 group not live, file absent there, controller not available
     Enoent,
     // 3 no such live process
     Esrch,
@@ -105,7 +105,7 @@ pub enum Errno {
     Eacces,
     // 16 group in use, or the inner-process rule
     Ebusy,
-    // 17 number taken, or name of a live sibling
+    // 17 number already live
     Eexist,
     // 22 number out of range or text malformed
     Einval,
@@ -129,16 +129,6 @@ pub enum RoomAnswer {
     Granted(u64),
     // the first group, going up, that had no room, and the number of groups consulted: 12 for a charge, 11 for a fork
     NoRoom(GroupId, u64),
-    Refused(Errno),
-}
-
-// What a walk answers.
-#[derive(Drop)]
-pub enum WalkAnswer {
-    // the group reached, and the number of names passed
-    Reached(GroupId, u64),
-    // how many names were passed before the first that was not found: 2
-    NotFound(u64),
     Refused(Errno),
 }
 

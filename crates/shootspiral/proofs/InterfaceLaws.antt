@@ -5,20 +5,19 @@ use mathlib.Core.Path.{◌≡◌, refl, ap, ap₂, sym, ◌∙◌}
 use Rattle.model.specs.Checks.{answer_number}
 use Rattle.model.specs.Tree.{Tree}
 use Rattle.model.specs.Hierarchy.{facts_of}
-use Rattle.model.specs.Calls.{Call, read, membership, walk, verdict}
+use Rattle.model.specs.Calls.{Call, read, membership, verdict}
 use Rattle.model.specs.Effects.{effect, step}
-use Rattle.model.specs.Replies.{Reply, Asks, for_charge, for_fork, asked_answer, room_reply, room_number, room_group, room_count, walk_answer, walk_reply, walk_number, walk_group, walk_count, read_number, read_length, reply, reply_by}
+use Rattle.model.specs.Replies.{Reply, Asks, for_charge, for_fork, asked_answer, room_reply, room_number, room_group, room_count, read_number, read_length, reply, reply_by}
 use Rattle.model.specs.declared.Resource.{Resource}
 use Rattle.model.specs.declared.Answer.{Answer}
 use Rattle.model.specs.declared.RoomAnswer.{RoomAnswer}
-use Rattle.model.specs.declared.WalkAnswer.{WalkAnswer}
 use Rattle.model.specs.declared.ReadAnswer.{ReadAnswer}
 use Rattle.model.proofs.Steps.{step-accepted, step-refused, by-verdict}
 use Rattle.model.proofs.Books.{reply-number}
 use Rattle.tree.specs.Layout.{view}
 use Rattle.tree.specs.Kept.{Kept}
 use Rattle.tree.specs.Calling.{Calling, Called, Asked, Delivering, Answered}
-use Rattle.shootspiral.specs.Interface.{group_word, group_words, Told}
+use Rattle.shootspiral.specs.Interface.{group_word, room_words, Told}
 
 -- the same call with its answer told otherwise
 retold : {A B : Type 0} {xs ys : List ℕ} {c : Call} {a r : A} {b s : B} → Calling xs ys c a r → s ≡ b → Calling xs ys c b s
@@ -38,11 +37,11 @@ module _ {r : Resource} {n p : ℕ} {c : Call} {xs ys : List ℕ} {a : RoomAnswe
   asked-number e = retold k (e ∙ ap (room_number r) k.answer ∙ sym (ap (λ (x : Reply). x.number) (asked-reply (view xs) q)))
 
   -- the two words that are told
-  pub asked-told : (g i : ℕ) → g ≡ group_word (room_group a) → i ≡ room_count a → g ∷ i ∷ [] ≡ group_words (reply (view xs) c)
+  pub asked-told : (g i : ℕ) → g ≡ group_word (room_group a) → i ≡ room_count a → g ∷ i ∷ [] ≡ room_words (reply (view xs) c)
   asked-told g i d e =
       ap₂ (λ x y. x ∷ y ∷ []) d e
-      ∙ ap (λ (x : RoomAnswer). group_words (room_reply r x)) k.answer
-      ∙ sym (ap group_words (asked-reply (view xs) q))
+      ∙ ap (λ (x : RoomAnswer). room_words (room_reply r x)) k.answer
+      ∙ sym (ap room_words (asked-reply (view xs) q))
 
 -- A call that changes nothing, accepted or not.
 quiet_step : (t : Tree) (c : Call) → effect t c ≡ t → t ≡ step t c
@@ -50,16 +49,6 @@ quiet_step t c e = by-verdict t c (λ y. sym (step-accepted t c y ∙ e)) (λ x 
 
 quiet : {xs : List ℕ} {c : Call} {n : ℕ} → Kept xs → effect (view xs) c ≡ view xs → n ≡ (reply (view xs) c).number → Answered xs xs c n
 quiet {xs} {c} k e f = record { answer = f; tree = quiet_step (view xs) c e; kept = k; same = λ _ _. refl }
-
--- a walk
-module _ (xs : List ℕ) (g : ℕ) (path : List ℕ) {a : WalkAnswer} (e : a ≡ walk_answer (view xs) g path) where
-  pub walk-number : {n : ℕ} → Kept xs → n ≡ walk_number a → Answered xs xs (walk g path) n
-  unfolding effect reply reply_by
-  walk-number k f = quiet k refl (f ∙ ap walk_number e)
-
-  pub walk-told : (h i : ℕ) → h ≡ group_word (walk_group a) → i ≡ walk_count a → h ∷ i ∷ [] ≡ group_words (reply (view xs) (walk g path))
-  unfolding reply reply_by
-  walk-told h i c d = ap₂ (λ x y. x ∷ y ∷ []) c d ∙ ap (λ (x : WalkAnswer). group_words (walk_reply x)) e
 
 -- texts
 module _ {xs : List ℕ} {g : ℕ} {file old new : List ℕ} {a : ReadAnswer} (r : Delivering xs (read g file old) a new) where

@@ -9,10 +9,9 @@ abbrev pub group_word : Option ℕ → ℕ
 group_word none = 2 ^ 64 - 1
 group_word (some g) = g
 
--- what a charge or a fork tells, the first group without room and the number of groups consulted; and a walk, the group reached and the
--- number of names passed
-abbrev pub group_words : Reply → List ℕ
-group_words r = group_word r.group ∷ r.count ∷ []
+-- what a charge or a fork tells: the first group without room, and the number of groups consulted
+abbrev pub room_words : Reply → List ℕ
+room_words r = group_word r.group ∷ r.consulted ∷ []
 
 -- what the question about a control line tells: a place in the line, and a length
 abbrev pub part_words : Part → List ℕ

@@ -2,10 +2,10 @@
 ghost use Rattle.std.specs.Prelude.{◌≡◌};
 ghost use Rattle.model.specs.Checks.{errno_number, answer_number};
 ghost use Rattle.model.specs.Rooms.{shortage};
-ghost use Rattle.model.specs.Replies.{room_number, room_group, room_count, walk_number, walk_group, walk_count, read_number, read_length};
+ghost use Rattle.model.specs.Replies.{room_number, room_group, room_count, read_number, read_length};
 ghost use Rattle.shootspiral.specs.Interface.{group_word};
 
-use model::{Answer, Errno, ReadAnswer, Resource, RoomAnswer, WalkAnswer};
+use model::{Answer, Errno, ReadAnswer, Resource, RoomAnswer};
 
 // Told where no group is named.
 pub const NO_GROUP: u64 = 18446744073709551615;
@@ -72,36 +72,6 @@ pub fn room_count(a: RoomAnswer) -> u64
         RoomAnswer::Granted(k) => k,
         RoomAnswer::NoRoom(_, k) => k,
         RoomAnswer::Refused(_) => 0,
-    }
-}
-
-pub fn walk_number(a: WalkAnswer) -> u32
-    ensures { result ≡ walk_number a }
-{
-    match a {
-        WalkAnswer::Reached(_, _) => 0,
-        WalkAnswer::NotFound(_) => errno_number(Errno::Enoent),
-        WalkAnswer::Refused(e) => errno_number(e),
-    }
-}
-
-pub fn walk_group(a: WalkAnswer) -> u64
-    ensures { result ≡ group_word (walk_group a) }
-{
-    match a {
-        WalkAnswer::Reached(g, _) => g.0,
-        WalkAnswer::NotFound(_) => NO_GROUP,
-        WalkAnswer::Refused(_) => NO_GROUP,
-    }
-}
-
-pub fn walk_count(a: WalkAnswer) -> u64
-    ensures { result ≡ walk_count a }
-{
-    match a {
-        WalkAnswer::Reached(_, k) => k,
-        WalkAnswer::NotFound(k) => k,
-        WalkAnswer::Refused(_) => 0,
     }
 }
 

@@ -1,21 +1,18 @@
 // Groups, processes and pages.
 ghost use Rattle.std.specs.Prelude.{◌≡◌};
-ghost use Rattle.model.specs.Calls.{make, remove, hand_over, walk, admit, fork, exit, collect, charge, release};
+ghost use Rattle.model.specs.Calls.{make, remove, hand_over, admit, fork, exit, collect, charge, release};
 ghost use Rattle.model.specs.Replies.{reply};
 ghost use Rattle.tree.specs.Layout.{view, tree_words};
 ghost use Rattle.tree.specs.Kept.{Kept, Fresh};
 ghost use Rattle.tree.specs.Calling.{Answered};
-ghost use Rattle.shootspiral.specs.Interface.{group_words};
+ghost use Rattle.shootspiral.specs.Interface.{room_words};
 
-use super::number::{
-    answer_number, room_count, room_group, room_number, walk_count, walk_group, walk_number,
-};
+use super::number::{answer_number, room_count, room_group, room_number};
 use accounting::charge::charge;
 use accounting::release::release;
 use groups::hand_over::hand_over;
 use groups::make::make;
 use groups::remove::remove;
-use groups::walk::walk;
 use model::{GroupId, ProcessId, Resource};
 use processes::birth::{admit, fork};
 use processes::collect::collect;
@@ -40,11 +37,11 @@ pub extern "C" fn ss_tree_words() -> u64
 }
 
 #[unsafe(no_mangle)]
-pub extern "C" fn ss_make(tree: &mut Tree, user: u32, parent: u64, group: u64, name: &[u8]) -> u32
+pub extern "C" fn ss_make(tree: &mut Tree, user: u32, parent: u64, group: u64) -> u32
     requires { Kept tree.old }
-    ensures { Answered tree.old tree.new (make user parent group name.now) result }
+    ensures { Answered tree.old tree.new (make user parent group) result }
 {
-    answer_number(make(tree, user, GroupId(parent), GroupId(group), name))
+    answer_number(make(tree, user, GroupId(parent), GroupId(group)))
 }
 
 #[unsafe(no_mangle)]
@@ -64,17 +61,6 @@ pub extern "C" fn ss_hand_over(tree: &mut Tree, user: u32, group: u64, owner: u3
 }
 
 #[unsafe(no_mangle)]
-pub extern "C" fn ss_walk(tree: &Tree, group: u64, path: &[u8], told: &mut [u64; 2]) -> u32
-    requires { Kept tree.now }
-    ensures answered { Answered tree.now tree.now (walk group path.now) result }
-    ensures told_after { told.new ≡ group_words (reply (view tree.now) (walk group path.now)) }
-{
-    let a = walk(tree, GroupId(group), path);
-    *told = [walk_group(a), walk_count(a)];
-    walk_number(a)
-}
-
-#[unsafe(no_mangle)]
 pub extern "C" fn ss_admit(tree: &mut Tree, process: u64, user: u32) -> u32
     requires { Kept tree.old }
     ensures { Answered tree.old tree.new (admit process user) result }
@@ -86,7 +72,7 @@ pub extern "C" fn ss_admit(tree: &mut Tree, process: u64, user: u32) -> u32
 pub extern "C" fn ss_fork(tree: &mut Tree, parent: u64, process: u64, told: &mut [u64; 2]) -> u32
     requires { Kept tree.old }
     ensures answered { Answered tree.old tree.new (fork parent process) result }
-    ensures told_after { told.new ≡ group_words (reply (view tree.old) (fork parent process)) }
+    ensures told_after { told.new ≡ room_words (reply (view tree.old) (fork parent process)) }
 {
     let a = fork(tree, ProcessId(parent), ProcessId(process));
     *told = [room_group(a), room_count(a)];
@@ -113,7 +99,7 @@ pub extern "C" fn ss_collect(tree: &mut Tree, process: u64) -> u32
 pub extern "C" fn ss_charge(tree: &mut Tree, process: u64, pages: u64, told: &mut [u64; 2]) -> u32
     requires { Kept tree.old }
     ensures answered { Answered tree.old tree.new (charge process pages) result }
-    ensures told_after { told.new ≡ group_words (reply (view tree.old) (charge process pages)) }
+    ensures told_after { told.new ≡ room_words (reply (view tree.old) (charge process pages)) }
 {
     let a = charge(tree, ProcessId(process), pages);
     *told = [room_group(a), room_count(a)];

@@ -3,7 +3,7 @@ ghost use Rattle.std.specs.Prelude.{◌≡◌, length};
 ghost use Rattle.model.specs.DeviceLines.{before, after};
 
 // Where the byte first stands, or the end of the word.
-pub fn cut_at(word: &[u8], byte: u8) -> usize
+fn cut_at(word: &[u8], byte: u8) -> usize
     ensures { result ≡ length (before byte word.now) }
 {
     let mut i = 0;

@@ -1,12 +1,8 @@
 pub mod LayoutLaws
 pub mod ClimbLaws
-pub mod StoreLaws
-pub mod AgreeLaws
 pub mod RowLaws
-pub mod ProcessWordLaws
 pub mod SetterLaws
 pub mod SlotLaws
-pub mod NameLaws
 pub mod MeetingLaws
 pub mod WalkLaws
 pub mod AdjustLaws

@@ -19,15 +19,13 @@ use Rattle.devices.specs.Slots.{free_slot}
 use Rattle.devices.specs.declared.slot.Slot.{Slot}
 use Rattle.devices.proofs.LimitWordLaws.{limit-word-is}
 use Rattle.devices.proofs.TableLaws.{same-slots}
-use Rattle.names.specs.declared.packed.Name.{Name}
-use Rattle.names.proofs.PackLaws.{words_same as name-same}
-use Rattle.tree.specs.Layout.{front, machine_at, row_words, tree_words, word, sum_field, sum_in, first_flag, live_field, set_field, first_slot, slot_field, name_field, remnant_field, left_name_field, used, ended_from, place_in, zombie_in, name_in, left_of, remnant_row, flag_in, slot_in, slots_in, group_row, process_in, view, SpareRow}
+use Rattle.tree.specs.Layout.{front, machine_at, row_words, tree_words, word, sum_field, sum_in, first_flag, live_field, set_field, first_slot, slot_field, remnant_field, used, ended_from, place_in, zombie_in, remnant_in, flag_in, slot_in, slots_in, group_row, process_in, view, SpareRow}
 use Rattle.tree.specs.Kept.{count_in, Kept}
 use Rattle.tree.specs.OneForm.{OneForm}
 use Rattle.tree.specs.declared.sum.Counter.{Counter}
 use Rattle.tree.specs.declared.sum.Counter.TheVariants.{Of, Children, Members, Zombies}
-use Rattle.tree.proofs.LayoutLaws.{place_none, place_at, zombie-not, zombie-at, left-none, left_is}
-use Rattle.tree.proofs.AgreeLaws.{process-in, ended-in}
+use Rattle.tree.proofs.LayoutLaws.{place_none, place_at, zombie-not, zombie-at, remnant-none, remnant-is}
+use Rattle.tree.proofs.RowLaws.{process-in, ended-in}
 
 -- A meaning has one word.
 place-word : (v w : ℕ) → place_in v ≡ place_in w → zombie_in v ≡ zombie_in w → v ≡ w
@@ -58,31 +56,25 @@ place-word v w e z =
     at-is : (m n : ℕ) → at m ≡ at n → m ≡ n
     at-is m n e = cc
 
-left_one : (v w : ℕ) (m n : Name) → left_of v m ≡ left_of w n → (v ≡ w) × (m ≡ n)
-left_one v w m n e =
-    whether (v + (m.a + (m.b + (m.c + m.d)))) 0
-    (λ a. whether (w + (n.a + (n.b + (n.c + n.d)))) 0
-    (λ b. (
-      omega arith,
-      name-words m n (omega arith) (omega arith) (omega arith) (omega arith),
-    ))
-    (λ b. none_left _ _ _ (sym (left-none v m a) ∙ e ∙ left_is w n b)))
-    (λ a. whether (w + (n.a + (n.b + (n.c + n.d)))) 0
-    (λ b. none_left _ _ _ (sym (left-none w n b) ∙ sym e ∙ left_is v m a))
+remnant-one : (v w : ℕ) → remnant_in v ≡ remnant_in w → v ≡ w
+remnant-one v w e =
+    whether v 0
+    (λ a. whether w 0
+    (λ b. a ∙ sym b)
+    (λ b. none_left _ _ (sym (remnant-none v a) ∙ e ∙ remnant-is w b)))
+    (λ a. whether w 0
+    (λ b. none_left _ _ (sym (remnant-none w b) ∙ sym e ∙ remnant-is v a))
     (λ b.
-    let f = left-parts _ _ _ _ _ _ (sym (left_is v m a) ∙ e ∙ left_is w n b) in
-    let low : v % groups ≡ w % groups = f.0 in
-    let high : v / groups ≡ w / groups = f.1 in
-    (omega arith, name-same m n f.2)))
+    let f = left_is _ _ _ _ (sym (remnant-is v a) ∙ e ∙ remnant-is w b) in
+    let low : (v - 1) % groups ≡ (w - 1) % groups = f.0 in
+    let high : (v - 1) / groups ≡ (w - 1) / groups = f.1 in
+    omega arith))
   where
-    none_left : (x y : ℕ) (z : List ℕ) → no_remnant ≡ remnant x y z → (v ≡ w) × (m ≡ n)
-    none_left x y z e = let z : ◌≡◌ {A = ℕ} 0 1 = cc in absurd (omega arith)
+    none_left : (m n : ℕ) → no_remnant ≡ remnant m n → v ≡ w
+    none_left m n e = let z : ◌≡◌ {A = ℕ} 0 1 = cc in absurd (omega arith)
 
-    left-parts : (a b c d : ℕ) (x y : List ℕ) → remnant a b x ≡ remnant c d y → (a ≡ c) × (b ≡ d) × (x ≡ y)
-    left-parts a b c d x y e = (cc, cc, cc)
-
-    name-words : (x y : Name) → x.a ≡ y.a → x.b ≡ y.b → x.c ≡ y.c → x.d ≡ y.d → x ≡ y
-    name-words x y a b c d = λ i. record { a = a i; b = b i; c = c i; d = d i }
+    left_is : (a b c d : ℕ) → remnant a b ≡ remnant c d → (a ≡ c) × (b ≡ d)
+    left_is a b c d e = (cc, cc)
 
 flag_word : (v w : ℕ) → v ≤ 1 → w ≤ 1 → flag_in v ≡ flag_in w → v ≡ w
 flag_word v w a b e =
@@ -105,7 +97,7 @@ below P (suc n) (x ▹ b) k l = whether k n (λ e. rw e x) (λ ne. below P n b k
 
 -- a row is its group, its sums and zeros
 module _ (v w : ℕ → ℕ) (a : SpareRow v) (b : SpareRow w) (sums : (c : Counter) → v (sum_field c) ≡ w (sum_field c)) (e : group_row v ≡ group_row w)
-    (r : remnant_row v ≡ remnant_row w) where
+    (r : remnant_in (v remnant_field) ≡ remnant_in (w remnant_field)) where
   flag : (k : ℕ) → first_flag ≤ k → k < first_slot → flag_in (v k) ≡ flag_in (w k) → v k ≡ w k
   flag k from to f = flag_word (v k) (w k) (a.flags k from to) (b.flags k from to) f
 
@@ -114,27 +106,18 @@ module _ (v w : ℕ → ℕ) (a : SpareRow v) (b : SpareRow w) (sums : (c : Coun
   slot i =
       ap (λ (l : List Slot). get_or l i free_slot) (same-slots (slots_in v) (slots_in w) refl a.packed b.packed (ap (λ (g : Group). g.io) e))
 
-  word_at : (i j : ℕ) → i ≡ j → v i ≡ w i → v j ≡ w j
-  word_at i j d h = subst (λ k. v k ≡ w k) d h
-
   -- and so are their words, after the places before them
   and-slot : (k : ℕ) → slot_in v k ≡ slot_in w k → Below (λ k. v k ≡ w k) k → Below (λ k. v k ≡ w k) (suc (suc (suc (suc (suc k)))))
   and-slot k f before =
-      word_at (k + 4) (suc (suc (suc (suc k)))) (omega arith) (ap (λ (x : Slot). x.wiops) f)
-      ▹ word_at (k + 3) (suc (suc (suc k))) (omega arith) (ap (λ (x : Slot). x.riops) f)
-      ▹ word_at (k + 2) (suc (suc k)) (omega arith) (ap (λ (x : Slot). x.wbps) f)
-      ▹ word_at (k + 1) (suc k) (omega arith) (ap (λ (x : Slot). x.rbps) f)
+      at (k + 4) (suc (suc (suc (suc k)))) (omega arith) (ap (λ (x : Slot). x.wiops) f)
+      ▹ at (k + 3) (suc (suc (suc k))) (omega arith) (ap (λ (x : Slot). x.riops) f)
+      ▹ at (k + 2) (suc (suc k)) (omega arith) (ap (λ (x : Slot). x.wbps) f)
+      ▹ at (k + 1) (suc k) (omega arith) (ap (λ (x : Slot). x.rbps) f)
       ▹ ap (λ (x : Slot). x.device) f
       ▹ before
-
-  -- a name's words, after the places before them
-  and-name : (k : ℕ) → name_in v k ≡ name_in w k → Below (λ k. v k ≡ w k) k → Below (λ k. v k ≡ w k) (suc (suc (suc (suc k))))
-  and-name k f before =
-      word_at (k + 3) (suc (suc (suc k))) (omega arith) (ap (λ (x : Name). x.d) f)
-      ▹ word_at (k + 2) (suc (suc k)) (omega arith) (ap (λ (x : Name). x.c) f)
-      ▹ word_at (k + 1) (suc k) (omega arith) (ap (λ (x : Name). x.b) f)
-      ▹ ap (λ (x : Name). x.a) f
-      ▹ before
+    where
+      at : (i j : ℕ) → i ≡ j → v i ≡ w i → v j ≡ w j
+      at i j d h = subst (λ k. v k ≡ w k) d h
 
   words-before : Below (λ k. v k ≡ w k) first_slot
   words-before =
@@ -160,11 +143,9 @@ module _ (v w : ℕ → ℕ) (a : SpareRow v) (b : SpareRow w) (sums : (c : Coun
 
   places_same : Below (λ k. v k ≡ w k) used
   places_same =
-      let left = left_one _ _ (name_in v left_name_field) (name_in w left_name_field) r in
-      let slots = and-slot (slot_field 3) (slot 3) (and-slot (slot_field 2) (slot 2) (and-slot (slot_field 1) (slot 1) (and-slot (slot_field 0) (slot 0) words-before))) in
-      let named = and-name name_field (name-same (name_in v name_field) (name_in w name_field) (ap (λ (g : Group). g.name) e)) slots in
       sums Children
-      ▹ and-name left_name_field left.1 (left.0 ▹ named)
+      ▹ remnant-one _ _ r
+      ▹ and-slot (slot_field 3) (slot 3) (and-slot (slot_field 2) (slot 2) (and-slot (slot_field 1) (slot 1) (and-slot (slot_field 0) (slot 0) words-before)))
 
   row_same : (k : ℕ) → k < row_words → v k ≡ w k
   row_same k l =

@@ -5,7 +5,7 @@ use mathlib.Core.List.{List, [], ◌∷◌}
 use mathlib.Core.Path.{◌≡◌, refl, ap, sym, ◌∙◌, subst}
 use lib.Dec.{ltb}
 use lib.ListN.{get_or}
-use borrow.Author.Tests.{ltb-true, ltb-false}
+use borrow.Author.Tests.{ltb-true}
 use Rattle.model.specs.Functions.{pick, upd}
 use Rattle.model.specs.Sizes.{groups}
 use Rattle.model.specs.Devices.{Ascending}
@@ -14,12 +14,10 @@ use Rattle.model.proofs.FunctionLaws.{split, upd_same, upd_other}
 use Rattle.devices.specs.Slots.{table_of, Packed, InOrder, rows}
 use Rattle.devices.specs.declared.slot.Slot.{Slot}
 use Rattle.devices.specs.declared.table.Slots.{Slots}
-use Rattle.tree.specs.Layout.{slots_end, remnant_field, front, row_words, first_word, first_slot, slot_words, slot_field, word, with_word, slot_in, slots_in, group_row, view}
+use Rattle.tree.specs.Layout.{slots_end, front, row_words, first_word, first_slot, slot_words, slot_field, word, with_word, slot_in, slots_in, group_row, view}
 use Rattle.tree.specs.Changes.{GroupRow, SlotPut, Slotted, Wrote, io_set}
 use Rattle.tree.specs.Kept.{KeptAt}
-use Rattle.tree.proofs.StoreLaws.{RowPut, row-start, also}
-use Rattle.tree.proofs.AgreeLaws.{group-ext}
-use Rattle.tree.proofs.RowLaws.{wrote-slots}
+use Rattle.tree.proofs.RowLaws.{RowPut, row-start, also, group-ext, wrote-slots}
 
 -- A slot read word by word, from place i of the words on.
 pub slot_read : (xs : List ℕ) (g j i : ℕ) → i ≡ front + g * row_words + j
@@ -110,18 +108,15 @@ slot-stays : {xs ys : List ℕ} {g j : ℕ} {x : Slot} → SlotPut xs ys g j x �
 slot-stays {xs} {ys} {g} p i l m = slot-ext (word ys g) (word xs g) i (λ k from to. p.below g k (omega arith) (omega arith))
 
 -- a row with other slots
-row-with-slots : (v w : ℕ → ℕ) → ((k : ℕ) → k < first_slot → w k ≡ v k) → ((k : ℕ) → slots_end ≤ k → k < remnant_field → w k ≡ v k)
+row-with-slots : (v w : ℕ → ℕ) → ((k : ℕ) → k < first_slot → w k ≡ v k)
     → group_row w ≡ with_settings (with_io (table_of (slots_in w)) (settings_of (group_row v))) (group_row v)
-row-with-slots v w e f = group-ext w joined same
+row-with-slots v w e = group-ext w joined same
   where
     joined : ℕ → ℕ
-    joined k = pick (ltb k first_slot) (v k) (pick (ltb k slots_end) (w k) (v k))
+    joined k = pick (ltb k first_slot) (v k) (w k)
 
-    same : (k : ℕ) → first_word ≤ k → k < remnant_field → w k ≡ joined k
-    same k _ l =
-        split (ltb k first_slot)
-        (λ y. rw y (e k (ltb-true k first_slot y)))
-        (λ n. split (ltb k slots_end) (λ y. rw (n, y)) (λ m. rw (n, m) (f k (ltb-false k slots_end m) l)))
+    same : (k : ℕ) → first_word ≤ k → k < slots_end → w k ≡ joined k
+    same k _ l = split (ltb k first_slot) (λ y. rw y (e k (ltb-true k first_slot y))) (λ n. rw n)
 
 module _ {xs as' bs cs ys : List ℕ} {g : ℕ} (s : Slots) (k : GroupRow xs g) (q : Packed (rows s)) (pa : SlotPut xs as' g (slot_field 0) s.a)
     (pb : SlotPut as' bs g (slot_field 1) s.b) (pc : SlotPut bs cs g (slot_field 2) s.c) (pd : SlotPut cs ys g (slot_field 3) s.d) where
@@ -153,7 +148,7 @@ module _ {xs as' bs cs ys : List ℕ} {g : ℕ} (s : Slots) (k : GroupRow xs g) 
   pub wrote-table : Wrote xs ys (io_set (view xs) g (table_of (rows s)))
   wrote-table =
       subst (λ (v : Group). Wrote xs ys (at_group (view xs) g v))
-      (row-with-slots (word xs g) (word ys g) (λ j l. put.below g j l (omega arith)) (λ j from l. put.above g j from (omega arith))
+      (row-with-slots (word xs g) (word ys g) (λ j l. put.below g j l (omega arith))
       ∙ ap (λ (l : List Slot). with_settings (with_io (table_of l) (settings_of (group_row (word xs g)))) (group_row (word xs g))) slots-after)
       (wrote-slots k.low put (subst Packed (sym slots-after) q))
 

@@ -5,12 +5,12 @@ mod slices;
 
 use std::env;
 
-use shootspiral::number::{LAST_GROUP, LAST_PROCESS, LONGEST_REPLY, MAX_DEPTH, MAX_NAME};
+use shootspiral::number::{LAST_GROUP, LAST_PROCESS, LONGEST_REPLY, MAX_DEPTH};
 use shootspiral_bench::Plain;
 use shootspiral_bench::work::{CHAINS, ROOM_FOR_GROUPS, ROOM_FOR_PROCESSES, Run, TIMED_FAMILIES};
 use shootspiral_check::Linked;
 
-use self::slices::{FOUR_DEVICES, LONGEST_LINE, SLICES, Slices};
+use self::slices::{FOUR_DEVICES, SLICES, Slices};
 
 const RUNS: usize = 5;
 
@@ -19,19 +19,17 @@ fn notes() -> String {
     format!(
         "\
 A tree of {groups} groups, processes at depth {MAX_DEPTH} ({consulted} groups consulted), all controllers on, both
-limits and three devices set in every group; group 114 is named tape-114, and so are the others.
-Every call of both hosts is out of line, the plain one's through the same trait. A run is {SLICES} slices,
-and the hosts take turns slice by slice; the figures are the median slice and the fastest. Reply
-buffers are cleared once, before the first run, and not between calls; trees are not cleared between
-runs. The hosts' answers are compared: all are the same.
+limits and three devices set in every group. Every call of both hosts is out of line, the plain
+one's through the same trait. A run is {SLICES} slices, and the hosts take turns slice by slice; the
+figures are the median slice and the fastest. Reply buffers are cleared once, before the first run,
+and not between calls; trees are not cleared between runs. The hosts' answers are compared: all are
+the same.
 
-Other trees: batches of {ROOM_FOR_GROUPS} groups or {ROOM_FOR_PROCESSES} processes come and go in a lone column of depth {MAX_DEPTH}, whose own
-groups have names of {MAX_NAME} bytes. Makes in the full tree are of the leaves of a column, removed before
-in a batch. A control line goes to {TIMED_FAMILIES} groups below the root in turn, each with two children, and
-these hold all processes; the set is empty before controllers join. Walks begin at the root.
-Membership lines of zombies are those of the full tree when all processes have ended and all groups
-are removed. A collect that frees a chain finds {CHAINS} chains in the tree, one zombie each and no live
-group. A fresh tree is written over another."
+Other trees: batches of {ROOM_FOR_GROUPS} groups or {ROOM_FOR_PROCESSES} processes come and go in a lone column of depth {MAX_DEPTH}; a control
+line goes to {TIMED_FAMILIES} groups below the root in turn, each with two children, and these hold all
+processes; the set is empty before controllers join. Membership lines of zombies are those of the full
+tree when all processes have ended and all groups are removed. A collect that frees a chain finds {CHAINS}
+chains in the tree, one zombie each and no live group. A fresh tree is written over another."
     )
 }
 
@@ -98,8 +96,6 @@ fn rows() -> Vec<Row> {
         row!("  the makes, in batches of {ROOM_FOR_GROUPS}", only_makes),
         row!("  the removes, in batches of {ROOM_FOR_GROUPS}", only_removes),
         row!("  the removes, in batches, a zombie in each", only_removes_with_zombie),
-        row!("make in the full tree", makes_in_full_tree),
-        row!("make, refused by a sibling's name", makes_refused),
         row!("hand over", hand_overs),
         row!("move between two leaves, by their owner", moves),
         row!("move between two columns, by user 0", moves_across),
@@ -128,10 +124,7 @@ fn rows() -> Vec<Row> {
         row!("read memory.current", usage_reads),
         row!("read io.max, four devices, {devices} bytes", device_reads),
         row!("membership line at depth {MAX_DEPTH}", memberships),
-        row!("membership line at depth {MAX_DEPTH}, {LONGEST_LINE} bytes", longest_memberships),
         row!("membership line of a zombie, group removed", memberships_of_zombies),
-        row!("walk, one name", short_walks),
-        row!("walk, {MAX_DEPTH} names", deep_walks),
         row!("first bad word of a line, none of four", bad_words),
         row!("fresh tree", fresh_trees),
     ]

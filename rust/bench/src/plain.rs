@@ -2,17 +2,15 @@
 //! processes and zombies for each group, nothing proved. It is what the proved host is timed against.
 
 mod devices;
-mod name;
 
 use shootspiral::number::{
     LAST_GROUP, LAST_PROCESS, LONGEST_IO_MAX, LONGEST_REPLY, MAX_DEPTH, MAX_LINE,
-    MAX_MACHINE_PAGES, MAX_NAME, MAX_PAGES, MAX_PATH, PAGE_BYTES,
+    MAX_MACHINE_PAGES, MAX_PAGES, PAGE_BYTES,
 };
 use shootspiral_check::Calls;
 
 use self::Errno::*;
 use self::devices::{Change, Device, Devices, KEYS};
-use self::name::{Name, names};
 
 const GROUPS: usize = LAST_GROUP.0 as usize + 1;
 /// One more than there are: process 0 is never live.
@@ -22,8 +20,9 @@ const NO_GROUP: u64 = u64::MAX;
 
 /// What the membership line of a zombie has after the path, once its group was removed.
 const DELETED: &[u8] = b" (deleted)";
-/// The most bytes of a membership line: "0::", a "/" and a name at each depth, that, a newline.
-const LONGEST_MEMBERSHIP: usize = 4 + MAX_DEPTH as usize * (1 + MAX_NAME) + DELETED.len();
+/// The most bytes of a membership line: "0::", a "/" and a number at each depth, that, a newline.
+const LONGEST_MEMBERSHIP: usize =
+    4 + MAX_DEPTH as usize * (2 + LAST_GROUP.0.ilog10() as usize) + DELETED.len();
 /// More bytes than any other file has, but cgroup.procs and io.max.
 const LONGEST_VALUE: usize = 32;
 
@@ -53,15 +52,6 @@ struct Denied(Errno, Option<(usize, u64)>);
 impl From<Errno> for Denied {
     fn from(errno: Errno) -> Denied {
         Denied(errno, None)
-    }
-}
-
-/// A refused walk: the errno, and how many names were passed.
-struct Lost(Errno, u64);
-
-impl From<Errno> for Lost {
-    fn from(errno: Errno) -> Lost {
-        Lost(errno, 0)
     }
 }
 
@@ -120,7 +110,8 @@ struct Group {
     depth: u8,
     set: Set,
     owner: u32,
-    /// Live processes of the group itself.
+    /// Live children, and live processes of the group itself.
+    children: u32,
     members: u32,
     own_pages: u64,
     /// Pages, live processes and zombies in the whole subtree. A removed group still counts zombies.
@@ -150,6 +141,7 @@ impl Group {
             depth,
             set: Set::EMPTY,
             owner,
+            children: 0,
             members: 0,
             own_pages: 0,
             usage: 0,
@@ -176,35 +168,6 @@ impl Group {
     }
 }
 
-/// The live children of a group, a bit each.
-#[derive(Clone, Copy, PartialEq, Eq)]
-struct Children([u64; GROUPS.div_ceil(64)]);
-
-impl Children {
-    const NONE: Children = Children([0; GROUPS.div_ceil(64)]);
-
-    fn insert(&mut self, group: usize) {
-        self.0[group / 64] |= 1 << (group % 64);
-    }
-
-    fn remove(&mut self, group: usize) {
-        self.0[group / 64] &= !(1 << (group % 64));
-    }
-
-    fn find(&self, is_it: impl Fn(usize) -> bool) -> Option<usize> {
-        for (place, mut word) in self.0.into_iter().enumerate() {
-            while word != 0 {
-                let child = 64 * place + word.trailing_zeros() as usize;
-                if is_it(child) {
-                    return Some(child);
-                }
-                word &= word - 1;
-            }
-        }
-        None
-    }
-}
-
 /// What a process number stands for. The group of a zombie may have been removed.
 #[derive(Clone, Copy)]
 enum Process {
@@ -216,10 +179,7 @@ enum Process {
 #[derive(Clone)]
 pub struct Plain {
     groups: [Group; GROUPS],
-    /// Of each group, and not in it: a walk up the groups passes none of this. Of a free group names and
-    /// children say nothing; a removed one keeps its name, for the lines of zombies.
-    names: [Name; GROUPS],
-    children: [Children; GROUPS],
+    /// Of each group, and not in it: a walk up the groups passes none of this.
     devices: [Devices; GROUPS],
     processes: [Process; PROCESSES],
 }
@@ -230,7 +190,6 @@ impl Plain {
     pub fn renew(&mut self, machine_pages: u64) {
         self.groups.fill(Group::FREE);
         self.groups[0] = Group::root(machine_pages);
-        self.children[0] = Children::NONE;
         for devices in &mut self.devices {
             devices.clear();
         }
@@ -309,19 +268,13 @@ impl Plain {
         self.each_up(group, |g| g.population += 1);
     }
 
-    /// The live child of this name.
-    fn child(&self, parent: usize, name: &Name) -> Option<usize> {
-        self.children[parent].find(|child| self.names[child] == *name)
-    }
-
-    fn try_make(&mut self, user: u32, parent: u64, group: u64, name: &[u8]) -> Done {
-        if parent as usize >= GROUPS || group as usize >= GROUPS {
+    fn try_make(&mut self, user: u32, parent: u64, group: u64) -> Done {
+        if group as usize >= GROUPS {
             return Err(Einval);
         }
-        let name = Name::parse(name).ok_or(Einval)?;
         let depth = self.live(parent)?.depth;
         let old = &self.groups[group as usize];
-        if old.is_live || old.zombies > 0 || self.child(parent as usize, &name).is_some() {
+        if old.is_live || old.zombies > 0 {
             return Err(Eexist);
         }
         if !self.may_write(user, parent as usize) {
@@ -331,10 +284,8 @@ impl Plain {
             return Err(Eagain);
         }
         self.groups[group as usize] = Group::new(parent as u8, depth + 1, user);
-        self.names[group as usize] = name;
-        self.children[group as usize] = Children::NONE;
         self.devices[group as usize].clear();
-        self.children[parent as usize].insert(group as usize);
+        self.groups[parent as usize].children += 1;
         Ok(())
     }
 
@@ -344,12 +295,12 @@ impl Plain {
         if !self.may_write(user, parent) {
             return Err(Eacces);
         }
-        let has_children = self.children[group as usize] != Children::NONE;
-        if group == 0 || has_children || removed.members > 0 {
+        if group == 0 || removed.children > 0 || removed.members > 0 {
             return Err(Ebusy);
         }
-        self.children[parent].remove(group as usize);
-        self.groups[parent].own_pages += removed.own_pages;
+        let above = &mut self.groups[parent];
+        above.children -= 1;
+        above.own_pages += removed.own_pages;
         self.groups[group as usize].is_live = false;
         Ok(())
     }
@@ -619,7 +570,7 @@ impl Plain {
         if group != 0 {
             self.path(self.groups[group].parent as usize, text);
             text.bytes(b"/");
-            text.bytes(self.names[group].bytes());
+            text.digits(group as u64);
         }
     }
 
@@ -638,20 +589,6 @@ impl Plain {
         }
         text.bytes(b"\n");
         Ok(())
-    }
-
-    /// The group reached, and how many names were passed.
-    fn try_walk(&self, group: u64, path: &[u8]) -> Result<(usize, u64), Lost> {
-        self.live(group)?;
-        if path.len() > MAX_PATH || !names(path).all(name::is_name) {
-            return Err(Einval.into());
-        }
-        let (mut reached, mut passed) = (group as usize, 0);
-        for name in names(path) {
-            reached = self.child(reached, &Name::of(name)).ok_or(Lost(Enoent, passed))?;
-            passed += 1;
-        }
-        Ok((reached, passed))
     }
 }
 
@@ -799,20 +736,15 @@ fn replied(length: Done<u64>, told: &mut [u64; 1]) -> u32 {
 /// Each call is kept out of line, as a call of the library is.
 impl Calls for Plain {
     fn fresh(machine_pages: u64) -> Plain {
-        let mut plain = Plain {
-            groups: [Group::FREE; GROUPS],
-            names: [Name::NONE; GROUPS],
-            children: [Children::NONE; GROUPS],
-            devices: [Devices::NONE; GROUPS],
-            processes: [Process::Free; PROCESSES],
-        };
+        let (groups, devices) = ([Group::FREE; GROUPS], [Devices::NONE; GROUPS]);
+        let mut plain = Plain { groups, devices, processes: [Process::Free; PROCESSES] };
         plain.groups[0] = Group::root(machine_pages);
         plain
     }
 
     #[inline(never)]
-    fn make(&mut self, user: u32, parent: u64, group: u64, name: &[u8]) -> u32 {
-        settled(self.try_make(user, parent, group, name))
+    fn make(&mut self, user: u32, parent: u64, group: u64) -> u32 {
+        settled(self.try_make(user, parent, group))
     }
 
     #[inline(never)]
@@ -880,20 +812,6 @@ impl Calls for Plain {
         let mut text = Text::new();
         let length = self.membership_line(process, &mut text).and_then(|()| text.deliver(reply));
         replied(length, told)
-    }
-
-    #[inline(never)]
-    fn walk(&self, group: u64, path: &[u8], told: &mut [u64; 2]) -> u32 {
-        match self.try_walk(group, path) {
-            Ok((reached, passed)) => {
-                *told = [reached as u64, passed];
-                0
-            }
-            Err(Lost(errno, passed)) => {
-                *told = [NO_GROUP, passed];
-                errno as u32
-            }
-        }
     }
 
     #[inline(never)]

@@ -2,12 +2,12 @@
 
 use std::hint::black_box;
 
-use shootspiral::number::{LAST_GROUP, LONGEST_REPLY, MAX_DEPTH, MAX_NAME};
+use shootspiral::number::{LAST_GROUP, LONGEST_REPLY};
 use shootspiral_bench::work::{
     ABOVE_LONE_LEAF, CHAINS, Charge, FIRST_DEVICE, LONE_LEAF, Layout, ROOM_FOR_GROUPS,
-    ROOM_FOR_PROCESSES, Renewed, Run, SPARE_COLUMN, SPARE_GROUP, SPARE_PROCESS, TIMED_FAMILIES,
-    begin_in, charges, end_all, end_chains, families, full_tree, head, lone_column, must, name,
-    names, of_chain, owner, time, time_apart, time_batch, word,
+    ROOM_FOR_PROCESSES, Renewed, Run, SPARE_GROUP, SPARE_PROCESS, TIMED_FAMILIES, begin_in,
+    charges, end_all, end_chains, families, full_tree, head, lone_column, must, of_chain, owner,
+    time, time_apart, time_batch, word,
 };
 use shootspiral_check::Calls;
 
@@ -31,9 +31,6 @@ pub const FOUR_DEVICES: &[u8] = b"\
 8:32 rbps=2097152 wbps=1048576 riops=2400 wiops=120
 8:48 rbps=2097152 wbps=1048576 riops=2400 wiops=120
 ";
-
-/// The bytes of the longest membership line of a live process.
-pub const LONGEST_LINE: usize = 4 + MAX_DEPTH as usize * (1 + MAX_NAME);
 
 /// A host with its full tree, one in which a single group holds all processes and a device more, one
 /// that has ended, a lone column, families, an empty tree for chains, and memory for a fresh tree and
@@ -141,44 +138,12 @@ impl<H: Renewed> Slices<H> {
 
     pub fn make_and_remove(&mut self, _slice: usize) -> Run {
         let Slices { host, layout, .. } = self;
-        let name = name(SPARE_GROUP);
         time(ROUNDS, 2, |_| {
             let removed = host.remove(0, SPARE_GROUP);
-            let made = host.make(0, layout.above_spare, SPARE_GROUP, name);
+            let made = host.make(0, layout.above_spare, SPARE_GROUP);
             u64::from(removed) << 8 | u64::from(made)
         })
         .accepted()
-    }
-
-    /// The leaves of a column are removed and made again, until the tree is full. They hold no process
-    /// where a leaf of another column holds all.
-    pub fn makes_in_full_tree(&mut self, _slice: usize) -> Run {
-        let Slices { crowded, layout, .. } = self;
-        let (leaves, names) = (&layout.leaves[SPARE_COLUMN], names());
-        let above = layout.above_spare;
-        let [makes] = time_apart(crowded, ROUNDS / leaves.len() as u64, |crowded| {
-            for &leaf in leaves {
-                must(crowded.remove(0, leaf));
-            }
-            [time_batch(crowded, leaves.len() as u64, |crowded, place| {
-                let leaf = leaves[place as usize];
-                crowded.make(0, above, leaf, &names[leaf as usize])
-            })]
-        });
-        makes
-    }
-
-    /// The name is that of a leaf beside it, the middle one.
-    pub fn makes_refused(&mut self, _slice: usize) -> Run {
-        let Slices { host, layout, .. } = self;
-        let leaves = &layout.leaves[SPARE_COLUMN];
-        let taken = name(leaves[leaves.len() / 2]);
-        must(host.remove(0, SPARE_GROUP));
-        let run = time(ROUNDS, 1, |_| {
-            u64::from(host.make(0, layout.above_spare, SPARE_GROUP, taken) ^ 17)
-        });
-        must(host.make(0, layout.above_spare, SPARE_GROUP, name(SPARE_GROUP)));
-        run.accepted()
     }
 
     pub fn only_makes(&mut self, _slice: usize) -> Run {
@@ -479,38 +444,6 @@ impl<H: Renewed> Slices<H> {
         run
     }
 
-    /// Of process 1, which is in the leaf of the lone column.
-    pub fn longest_memberships(&mut self, _slice: usize) -> Run {
-        let Slices { column, reply, .. } = self;
-        time(ROUNDS, 1, |_| {
-            let mut told = [0; 1];
-            let number = column.membership(1, reply, &mut told);
-            let end = u64::from(reply[LONGEST_LINE - 1] ^ b'\n');
-            word(number, [told[0] ^ LONGEST_LINE as u64, end])
-        })
-        .accepted()
-    }
-
-    pub fn short_walks(&mut self, _slice: usize) -> Run {
-        self.walks(1, |layout, process| layout.tops[layout.column[process] as usize])
-    }
-
-    pub fn deep_walks(&mut self, _slice: usize) -> Run {
-        self.walks(MAX_DEPTH, |layout, process| layout.place[process])
-    }
-
-    /// From the root to a group at this depth, above each process in turn.
-    fn walks(&mut self, depth: u64, above: impl Fn(&Layout, usize) -> u64) -> Run {
-        let Slices { host, layout, .. } = self;
-        time(ROUNDS, 1, |place| {
-            let mut told = [0; 2];
-            let group = above(layout, (place % (SPARE_PROCESS - 1) + 1) as usize);
-            let number = host.walk(0, &layout.path[group as usize], &mut told);
-            word(number, [told[0] ^ group, told[1] ^ depth])
-        })
-        .accepted()
-    }
-
     pub fn bad_words(&mut self, _slice: usize) -> Run {
         let Slices { host, .. } = self;
         time(ROUNDS, 1, |_| {
@@ -531,10 +464,8 @@ impl<H: Renewed> Slices<H> {
 
 /// The groups beside the leaf of the lone column.
 fn make_batch<H: Calls>(column: &mut H) -> Run {
-    let names = names();
     time_batch(column, ROOM_FOR_GROUPS, |column, place| {
-        let group = LONE_LEAF + 1 + place;
-        column.make(0, ABOVE_LONE_LEAF, group, &names[group as usize])
+        column.make(0, ABOVE_LONE_LEAF, LONE_LEAF + 1 + place)
     })
 }
 

@@ -1,8 +1,7 @@
 //! The trees that are timed, and how calls are timed on them.
 //!
 //! The full tree has every group that there can be, each below the root with all controllers on,
-//! both limits set and three devices in io.max, in four columns that go down to the last depth. Group
-//! 114 is named "tape-114", and so are the others:
+//! both limits set and three devices in io.max, in four columns that go down to the last depth:
 //!
 //! ```text
 //! 0
@@ -13,15 +12,14 @@
 //! ```
 //!
 //! A lone column has room for groups and processes, so that calls that do and undo can each be timed
-//! alone; its own groups have names as long as can be. Families are for the controllers of a group
-//! that has few children. In the full tree that has ended all processes are zombies and all groups but
-//! the root are removed.
+//! alone. Families are for the controllers of a group that has few children. In the full tree that has
+//! ended all processes are zombies and all groups but the root are removed.
 
 use std::hint::black_box;
 use std::sync::LazyLock;
 use std::time::{Duration, Instant};
 
-use shootspiral::number::{LAST_GROUP, LAST_PROCESS, MAX_DEPTH, MAX_NAME};
+use shootspiral::number::{LAST_GROUP, LAST_PROCESS, MAX_DEPTH};
 use shootspiral::sys;
 use shootspiral_check::{Calls, Linked};
 
@@ -31,9 +29,8 @@ const COLUMNS: u64 = 4;
 const MACHINE: u64 = 1 << 30;
 const CONTROLLERS: &[u8] = b"+cpu +io +memory +pids";
 
-/// Kept without processes, so that it can be removed and made again; and the column that it is in.
+/// Kept without processes, so that it can be removed and made again.
 pub const SPARE_GROUP: u64 = LAST_GROUP.0;
-pub const SPARE_COLUMN: usize = (SPARE_GROUP % COLUMNS) as usize;
 /// Kept free, so that it can be forked to.
 pub const SPARE_PROCESS: u64 = LAST_PROCESS.0;
 
@@ -46,23 +43,8 @@ const DEVICES: [&[u8]; 3] = [
 /// Comes before them; `full_tree` does not write it.
 pub const FIRST_DEVICE: &[u8] = b"8:0 rbps=2097152 wbps=1048576 riops=2400 wiops=120";
 
-static NAMES: LazyLock<Vec<Vec<u8>>> =
-    LazyLock::new(|| (0..=LAST_GROUP.0).map(|group| format!("tape-{group}").into()).collect());
-
-/// The name of each group, by its number.
-pub fn names() -> &'static [Vec<u8>] {
-    &NAMES
-}
-
-/// The same for calls that are not timed.
-pub fn name(group: u64) -> &'static [u8] {
-    &names()[group as usize]
-}
-
 /// Where everything stands in the full tree.
 pub struct Layout {
-    /// The group of each column that is the root's child.
-    pub tops: Vec<u64>,
     /// The leaves of each column that hold processes.
     pub leaves: Vec<Vec<u64>>,
     /// The leaf of each process, by its number; 0 for none.
@@ -71,8 +53,6 @@ pub struct Layout {
     pub column: Vec<u64>,
     /// The owner of each group.
     pub owner: Vec<u32>,
-    /// The path of each group from the root.
-    pub path: Vec<Vec<u8>>,
     /// The group that the spare one is made under.
     pub above_spare: u64,
 }
@@ -86,12 +66,10 @@ pub fn owner(column: u64) -> u32 {
 pub fn full_tree<H: Calls>() -> (H, Layout) {
     let mut host = H::fresh(MACHINE);
     let mut layout = Layout {
-        tops: vec![],
         leaves: vec![vec![]; COLUMNS as usize],
         place: vec![0; SPARE_PROCESS as usize + 1],
         column: vec![0; SPARE_PROCESS as usize + 1],
         owner: vec![0],
-        path: vec![vec![]],
         above_spare: 0,
     };
     must(host.write_subtree_control(0, 0, CONTROLLERS));
@@ -99,13 +77,11 @@ pub fn full_tree<H: Calls>() -> (H, Layout) {
     let mut bottoms = vec![];
     for column in 0..COLUMNS {
         let mut above = 0;
-        layout.tops.push(next);
         for _ in 1..MAX_DEPTH {
-            must(host.make(0, above, next, name(next)));
+            must(host.make(0, above, next));
             must(host.hand_over(0, next, owner(column)));
             must(host.write_subtree_control(0, next, CONTROLLERS));
             layout.owner.push(owner(column));
-            layout.path.push(path_below(&layout.path[above as usize], next));
             (above, next) = (next, next + 1);
         }
         bottoms.push(above);
@@ -113,9 +89,8 @@ pub fn full_tree<H: Calls>() -> (H, Layout) {
     for group in next..=SPARE_GROUP {
         let column = group % COLUMNS;
         let above = bottoms[column as usize];
-        must(host.make(owner(column), above, group, name(group)));
+        must(host.make(owner(column), above, group));
         layout.owner.push(owner(column));
-        layout.path.push(path_below(&layout.path[above as usize], group));
         if group == SPARE_GROUP {
             layout.above_spare = above;
         } else {
@@ -135,12 +110,6 @@ pub fn full_tree<H: Calls>() -> (H, Layout) {
         layout.column[process as usize] = column;
     }
     (host, layout)
-}
-
-/// The path of a group, from that of its parent.
-fn path_below(above: &[u8], group: u64) -> Vec<u8> {
-    let slash: &[u8] = if above.is_empty() { b"" } else { b"/" };
-    [above, slash, name(group)].concat()
 }
 
 /// Ends all processes of the full tree, removes all its groups, and collects nobody.
@@ -179,7 +148,7 @@ pub fn lone_column<H: Calls>() -> H {
     let mut host = H::fresh(MACHINE);
     for above in 0..MAX_DEPTH {
         must(host.write_subtree_control(0, above, CONTROLLERS));
-        must(host.make(0, above, above + 1, &[b'a' + above as u8; MAX_NAME]));
+        must(host.make(0, above, above + 1));
         set_limits(&mut host, above + 1);
     }
     begin_in(&mut host, 1, LONE_LEAF);
@@ -202,7 +171,7 @@ pub fn end_chains<H: Calls>(host: &mut H) {
         let groups = chain * MAX_DEPTH + 1..=(chain + 1) * MAX_DEPTH;
         let mut above = 0;
         for group in groups.clone() {
-            must(host.make(0, above, group, name(group)));
+            must(host.make(0, above, group));
             above = group;
         }
         begin_in(host, of_chain(chain), above);
@@ -239,9 +208,9 @@ pub fn families<H: Calls>() -> H {
     let mut children = vec![];
     must(host.write_subtree_control(0, 0, CONTROLLERS));
     for head in (0..FAMILIES).map(head) {
-        must(host.make(0, 0, head, name(head)));
+        must(host.make(0, 0, head));
         for child in head + 1..head + FAMILY {
-            must(host.make(0, head, child, name(child)));
+            must(host.make(0, head, child));
             children.push(child);
         }
     }

@@ -33,8 +33,8 @@ impl<A: Around> Calls for A {
         Around::fresh(machine_pages)
     }
 
-    fn make(&mut self, user: u32, parent: u64, group: u64, name: &[u8]) -> u32 {
-        number(self, Call::Make { user, parent, group, name: name.to_vec() })
+    fn make(&mut self, user: u32, parent: u64, group: u64) -> u32 {
+        number(self, Call::Make { user, parent, group })
     }
 
     fn remove(&mut self, user: u32, group: u64) -> u32 {
@@ -88,10 +88,6 @@ impl<A: Around> Calls for A {
 
     fn membership(&self, process: u64, reply: &mut [u8], told: &mut [u64; 1]) -> u32 {
         show(self, Call::Membership { process, room: reply.len() }, told, reply)
-    }
-
-    fn walk(&self, group: u64, path: &[u8], told: &mut [u64; 2]) -> u32 {
-        self.ask(Call::Walk { group, path: path.to_vec() }, told, &mut [])
     }
 
     fn first_bad_word(&self, line: &[u8], told: &mut [u64; 2]) {

@@ -2,13 +2,13 @@
 
 use std::fmt;
 
-use crate::calls::{Calls, number_as_name};
+use crate::calls::Calls;
 use crate::model::{number, words};
 
 /// One call with its arguments. A read or a membership line gets a reply buffer of `room` bytes.
 #[derive(Clone, PartialEq, Eq)]
 pub enum Call {
-    Make { user: u32, parent: u64, group: u64, name: Vec<u8> },
+    Make { user: u32, parent: u64, group: u64 },
     Remove { user: u32, group: u64 },
     HandOver { user: u32, group: u64, owner: u32 },
     WriteProcs { user: u32, group: u64, line: Vec<u8> },
@@ -22,7 +22,6 @@ pub enum Call {
     Release { group: u64, pages: u64 },
     Read { group: u64, file: Vec<u8>, room: usize },
     Membership { process: u64, room: usize },
-    Walk { group: u64, path: Vec<u8> },
     FirstBadWord { line: Vec<u8> },
 }
 
@@ -33,7 +32,7 @@ const TOLD_MARGIN: usize = 2;
 const UNTOLD: u64 = 0x7e11_7e11_7e11_7e11;
 
 /// All that a call leaves in its caller's hands: the number, `told` and the reply buffer, and what
-/// stands before and after them; and whether the line, the path and the names are as they were.
+/// stands before and after them; and whether the line and the file name are as they were.
 #[derive(Clone, PartialEq, Eq)]
 pub struct Answer {
     pub number: u32,
@@ -47,11 +46,6 @@ pub struct Answer {
 }
 
 impl Call {
-    /// Makes a group that is named by its number.
-    pub fn numbered(user: u32, parent: u64, group: u64) -> Call {
-        Call::Make { user, parent, group, name: number_as_name(group) }
-    }
-
     /// The call's name, as the table of counts and the C interface spell it.
     pub fn name(&self) -> &'static str {
         match self {
@@ -69,7 +63,6 @@ impl Call {
             Call::Release { .. } => "release",
             Call::Read { .. } => "read",
             Call::Membership { .. } => "membership",
-            Call::Walk { .. } => "walk",
             Call::FirstBadWord { .. } => "first_bad_word",
         }
     }
@@ -98,8 +91,7 @@ impl Call {
             | Call::WriteSubtreeControl { group, .. }
             | Call::WriteSetting { group, .. }
             | Call::Release { group, .. }
-            | Call::Read { group, .. }
-            | Call::Walk { group, .. } => vec![*group],
+            | Call::Read { group, .. } => vec![*group],
             Call::Admit { .. }
             | Call::Fork { .. }
             | Call::Exit { .. }
@@ -129,13 +121,7 @@ impl Call {
 
     /// Whether the call changes no tree, whatever it answers.
     pub fn is_question(&self) -> bool {
-        matches!(
-            self,
-            Call::Read { .. }
-                | Call::Membership { .. }
-                | Call::Walk { .. }
-                | Call::FirstBadWord { .. }
-        )
+        matches!(self, Call::Read { .. } | Call::Membership { .. } | Call::FirstBadWord { .. })
     }
 
     /// Makes the call. `fill` picks the bytes that the reply buffer holds before.
@@ -158,7 +144,7 @@ impl Call {
     /// Makes the call with the caller's own words and bytes.
     pub fn lend<H: Calls>(&self, host: &mut H, told: &mut [u64; 2], reply: &mut [u8]) -> u32 {
         match self {
-            Call::Make { user, parent, group, name } => host.make(*user, *parent, *group, name),
+            Call::Make { user, parent, group } => host.make(*user, *parent, *group),
             Call::Remove { user, group } => host.remove(*user, *group),
             Call::HandOver { user, group, owner } => host.hand_over(*user, *group, *owner),
             Call::WriteProcs { user, group, line } => host.write_procs(*user, *group, line),
@@ -174,27 +160,22 @@ impl Call {
             Call::Collect { process } => host.collect(*process),
             Call::Charge { process, pages } => host.charge(*process, *pages, told),
             Call::Release { group, pages } => host.release(*group, *pages),
-            Call::Read { .. }
-            | Call::Membership { .. }
-            | Call::Walk { .. }
-            | Call::FirstBadWord { .. } => self.ask(host, told, reply),
+            Call::Read { .. } | Call::Membership { .. } | Call::FirstBadWord { .. } => {
+                self.ask(host, told, reply)
+            }
         }
     }
 
     /// Asks a question with the caller's own words and bytes.
     pub fn ask<H: Calls>(&self, host: &H, told: &mut [u64; 2], reply: &mut [u8]) -> u32 {
-        match self {
-            Call::Walk { group, path } => return host.walk(*group, path, told),
-            Call::FirstBadWord { line } => {
-                host.first_bad_word(line, told);
-                return 0;
-            }
-            _ => {}
-        }
         let first = told.first_chunk_mut().expect("one word");
         match self {
             Call::Read { group, file, .. } => host.read(*group, file, reply, first),
             Call::Membership { process, .. } => host.membership(*process, reply, first),
+            Call::FirstBadWord { line } => {
+                host.first_bad_word(line, told);
+                0
+            }
             _ => panic!("{self} is not a question"),
         }
     }
@@ -224,10 +205,8 @@ fn filling(place: usize, fill: u8) -> u8 {
 impl fmt::Display for Call {
     fn fmt(&self, f: &mut fmt::Formatter<'_>) -> fmt::Result {
         match self {
-            Call::Make { user, parent, group, name } => {
-                let name = Bytes(name);
-                write!(f, "Make {{ user: {user}, parent: {parent}, group: {group}, ")?;
-                write!(f, "name: {name}.to_vec() }}")
+            Call::Make { user, parent, group } => {
+                write!(f, "Make {{ user: {user}, parent: {parent}, group: {group} }}")
             }
             Call::Remove { user, group } => write!(f, "Remove {{ user: {user}, group: {group} }}"),
             Call::HandOver { user, group, owner } => {
@@ -268,9 +247,6 @@ impl fmt::Display for Call {
             Call::Membership { process, room } => {
                 write!(f, "Membership {{ process: {process}, room: {room} }}")
             }
-            Call::Walk { group, path } => {
-                write!(f, "Walk {{ group: {group}, path: {}.to_vec() }}", Bytes(path))
-            }
             Call::FirstBadWord { line } => {
                 write!(f, "FirstBadWord {{ line: {}.to_vec() }}", Bytes(line))
             }
@@ -307,7 +283,7 @@ impl fmt::Display for Answer {
             }
         }
         if !self.is_call_kept {
-            f.write_str(", changed the line, the path or a name")?;
+            f.write_str(", changed the line or the file name")?;
         }
         Ok(())
     }

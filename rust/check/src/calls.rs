@@ -1,18 +1,13 @@
 //! The calls that every host under comparison answers, with the arguments and results of the C
 //! interface: numbers of document 01, and `told` beside them.
 
-/// What `told` of a charge, a fork or a walk says where no cgroup is named.
+/// What `told` of a charge or a fork says where no cgroup is named.
 pub const NO_GROUP: u64 = u64::MAX;
-
-/// The name of a cgroup that is named by its number, as all were in lists from before order 6.
-pub fn number_as_name(group: u64) -> Vec<u8> {
-    group.to_string().into_bytes()
-}
 
 /// A host, proved or plain or wrong.
 pub trait Calls: Clone {
     fn fresh(machine_pages: u64) -> Self;
-    fn make(&mut self, user: u32, parent: u64, group: u64, name: &[u8]) -> u32;
+    fn make(&mut self, user: u32, parent: u64, group: u64) -> u32;
     fn remove(&mut self, user: u32, group: u64) -> u32;
     fn hand_over(&mut self, user: u32, group: u64, owner: u32) -> u32;
     fn write_procs(&mut self, user: u32, group: u64, line: &[u8]) -> u32;
@@ -26,14 +21,8 @@ pub trait Calls: Clone {
     fn release(&mut self, group: u64, pages: u64) -> u32;
     fn read(&self, group: u64, file: &[u8], reply: &mut [u8], told: &mut [u64; 1]) -> u32;
     fn membership(&self, process: u64, reply: &mut [u8], told: &mut [u64; 1]) -> u32;
-    fn walk(&self, group: u64, path: &[u8], told: &mut [u64; 2]) -> u32;
     /// It sees no tree; but a wrong host can answer it wrongly.
     fn first_bad_word(&self, line: &[u8], told: &mut [u64; 2]);
-
-    /// Makes a cgroup that is named by its number.
-    fn make_numbered(&mut self, user: u32, parent: u64, group: u64) -> u32 {
-        self.make(user, parent, group, &number_as_name(group))
-    }
 
     /// Everything that the host keeps, for hosts that can show it: a refusal may not change it.
     fn memory(&self) -> &[u64] {

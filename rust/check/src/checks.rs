@@ -48,14 +48,9 @@ checks! {
     make {
         22 PARENT_ABOVE_LAST "parent above 255",
         22 NEW_ABOVE_LAST "new above 255",
-        22 NAME_EMPTY "name empty",
-        22 NAME_LONG "name of more than 31 bytes",
-        22 NAME_BAD_BYTE "a byte of the name is not printable ASCII, a space or /",
-        22 NAME_DOTS "name is . or ..",
         2 PARENT_NOT_LIVE "parent not live",
         17 NEW_IS_LIVE "new is live",
         17 NEW_ON_ZOMBIES_PATH "new was removed, and a zombie's path runs through it",
-        17 NAME_TAKEN "a live sibling has the name",
         13 MAY_NOT_WRITE_PARENT "may not write parent",
         11 PARENT_DEEPEST "parent at depth 16",
     }
@@ -173,16 +168,6 @@ checks! {
         3 FREE "free",
         28 SHORT_BUFFER "buffer shorter than the reply",
     }
-    walk {
-        22 ABOVE_LAST "above 255",
-        2 NOT_LIVE "not live",
-        22 LONG_PATH "path of more than 1024 bytes",
-        22 EMPTY_NAME "an empty name",
-        22 LONG_NAME "a name of more than 31 bytes",
-        22 BAD_BYTE "a byte of a name is not printable ASCII, or a space",
-        22 DOTS "a name is . or ..",
-        2 NOT_FOUND "a name not found",
-    }
 }
 
 /// Checks of one call that never hold together: any of the first with any of the second, and why.
@@ -192,17 +177,6 @@ const NEVER: &[(&[&Check], &[&Check], &str)] = &[
         &[make::PARENT_DEEPEST],
         "what is not live has no depth",
     ),
-    (
-        &[make::PARENT_ABOVE_LAST, make::PARENT_NOT_LIVE],
-        &[make::NAME_TAKEN],
-        "what is not live has no children",
-    ),
-    (
-        &[make::NAME_EMPTY, make::NAME_LONG, make::NAME_BAD_BYTE, make::NAME_DOTS],
-        &[make::NAME_TAKEN],
-        "no group has such a name",
-    ),
-    (&[make::NAME_TAKEN], &[make::PARENT_DEEPEST], "a group at depth 16 has no children"),
     (
         &[make::NEW_ABOVE_LAST],
         &[make::NEW_IS_LIVE, make::NEW_ON_ZOMBIES_PATH],
@@ -335,7 +309,6 @@ const NEVER: &[(&[&Check], &[&Check], &str)] = &[
         "there is no text",
     ),
     (&[membership::OUTSIDE, membership::FREE], &[membership::SHORT_BUFFER], "there is no text"),
-    (&[walk::ABOVE_LAST], &[walk::NOT_FOUND], "where nothing is live nothing is walked"),
 ];
 
 /// Why two checks never hold together, if they do not.

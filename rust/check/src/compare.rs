@@ -1,9 +1,8 @@
 //! The model beside a host, call by call. After every call these are compared: the answer, what was
 //! told, the reply buffer and the bytes after it; and where the call may have changed something, every
 //! file of every live group, one file of every other, and the membership line of every live process and
-//! of every zombie; each live group is looked for by its name under its parent, and by their paths from
-//! the root those that the call names and those of zombies. Now and then all that can be read is, and
-//! in large trees only then, but for zombies' lines, which are read unless there are many.
+//! of every zombie. Now and then all that can be read is, and in large trees only then, but for zombies'
+//! lines, which are read unless there are many.
 
 use std::collections::BTreeSet;
 use std::fmt;
@@ -96,9 +95,8 @@ impl<H: Calls> Pair<H> {
             return Ok(());
         }
         let mut processes = call.processes();
-        let groups = &before | &near(&self.model, call);
-        groups.iter().try_for_each(|&group| self.walk_from_root(self.model.chain(group)))?;
         if self.is_large() {
+            let groups = &before | &near(&self.model, call);
             groups.into_iter().try_for_each(|group| self.look_at(group))?;
         } else {
             (0..=LAST_GROUP + 1).try_for_each(|group| self.look_at(group))?;
@@ -107,10 +105,7 @@ impl<H: Calls> Pair<H> {
         if self.model.zombies().count() <= MANY_PROCESSES {
             processes.extend(self.model.zombies());
         }
-        processes.into_iter().try_for_each(|process| {
-            self.read_membership(process)?;
-            self.walk_from_root(self.model.path(process))
-        })
+        processes.into_iter().try_for_each(|process| self.read_membership(process))
     }
 
     /// Whether much is live.
@@ -171,43 +166,16 @@ impl<H: Calls> Pair<H> {
     }
 
     /// Reads every file of every group and every membership line, the numbers just outside the
-    /// range included, and walks every path.
+    /// range included.
     pub fn survey(&mut self) -> Result<(), Box<Difference>> {
-        (0..=LAST_GROUP + 1).try_for_each(|group| {
-            self.read_files(group, &FILES)?;
-            self.walk(group, vec![])?;
-            self.walk_from_root(self.model.chain(group))
-        })?;
+        (0..=LAST_GROUP + 1).try_for_each(|group| self.read_files(group, &FILES))?;
         (0..=LAST_PROCESS + 1).try_for_each(|process| self.read_membership(process))
     }
 
-    /// Reads every file of a live group, and looks for it by its name; of another reads the file that
-    /// it would have if it were live.
+    /// Reads every file of a live group; of another the one that it would have if it were live.
     fn look_at(&mut self, group: u64) -> Result<(), Box<Difference>> {
-        let Some(kept) = self.model.group(group) else {
-            return self.read_files(group, &FILES[..1]);
-        };
-        let (parent, name) = (kept.parent, kept.name.clone());
-        self.read_files(group, &FILES)?;
-        self.walk(parent, name)
-    }
-
-    /// Walks from the root along the names of a chain.
-    fn walk_from_root(&mut self, chain: Vec<u64>) -> Result<(), Box<Difference>> {
-        match chain.len() {
-            0 | 1 => Ok(()),
-            _ => self.walk(0, self.model.names_of(&chain)),
-        }
-    }
-
-    fn walk(&mut self, group: u64, path: Vec<u8>) -> Result<(), Box<Difference>> {
-        let question = Call::Walk { group, path };
-        let expected = question.on(&mut self.model, 0);
-        let found = question.on(&mut self.host, 0);
-        match expected == found {
-            true => Ok(()),
-            false => Err(Box::new(Difference::Later { question, expected, found })),
-        }
+        let is_live = self.model.group(group).is_some();
+        self.read_files(group, if is_live { &FILES } else { &FILES[..1] })
     }
 
     fn read_files(&mut self, group: u64, files: &[&[u8]]) -> Result<(), Box<Difference>> {

@@ -6,7 +6,7 @@ use std::fmt;
 
 use crate::call::Call;
 use crate::checks::{Check, TABLE, besides, never, with};
-use crate::kinds::{self, Freed, Gone, KINDS, Kind};
+use crate::kinds::{self, Freed, KINDS, Kind};
 use crate::model::Model;
 
 #[derive(Default)]
@@ -18,9 +18,8 @@ pub struct Counts {
     /// Any two that held in one call.
     together: BTreeSet<(&'static Check, &'static Check)>,
     kinds: BTreeMap<Kind, u64>,
-    /// What the present list has freed, and removed.
+    /// What the present list has freed.
     freed: Freed,
-    gone: Gone,
 }
 
 impl Counts {
@@ -31,7 +30,6 @@ impl Counts {
     /// Begins another list.
     pub fn begin(&mut self) {
         self.freed = Freed::default();
-        self.gone = Gone::default();
     }
 
     /// Counts a call that the model is about to answer: which check refuses it, and which hold
@@ -47,7 +45,6 @@ impl Counts {
         }
         let mut kinds = kinds::of_call(model, call, &held);
         kinds.extend(self.freed.follow(model, call, &held));
-        kinds.extend(self.gone.follow(model, call, &held));
         for kind in kinds {
             *self.kinds.entry(kind).or_default() += 1;
         }

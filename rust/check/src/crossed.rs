@@ -1,7 +1,7 @@
 //! A list of calls, two for each pair of checks that can hold in one call: on a tree where every
 //! check can, all arguments of a short list each are tried with all others. Dice come to most pairs;
 //! this leaves none to them. On the same tree go on the lists of [`sizes`], [`names`], [`depths`],
-//! [`effects`], [`devices`], [`zombies`] and [`paths`].
+//! [`effects`], [`devices`] and [`zombies`].
 
 use std::collections::BTreeMap;
 
@@ -10,29 +10,17 @@ use crate::calls::Calls;
 use crate::checks::{Check, TABLE, besides, never, with};
 use crate::compare::{FILES, ROOM};
 use crate::model::{DEEPEST, LAST_GROUP, LAST_PROCESS, Model};
-use crate::{depths, devices, effects, names, paths, sizes, zombies};
+use crate::{depths, devices, effects, names, sizes, zombies};
 
 pub const MACHINE: u64 = 64;
 
 /// The highest of the groups that stand one below the other, down to the deepest level. That one is
-/// the last, and all are named by their numbers, of three digits.
+/// the last, and all have three digits, as a membership line is longest.
 pub const LADDER: u64 = LAST_GROUP + 1 - DEEPEST as u64;
 
 /// Some that are in `tree`, two that were, one that is not live, and two above the last.
 const GROUPS: [u64; 13] =
     [0, 1, 2, 3, 4, 5, 6, 7, LADDER, LAST_GROUP, 100, LAST_GROUP + 1, u64::MAX];
-/// Some that children have, some that none has, and bad ones, each for one cause; the last for two.
-const NAMES: [&str; 9] = [
-    "2",
-    "x",
-    "",
-    "x23456789_123456789_123456789_12",
-    "x y",
-    ".",
-    "..",
-    "241",
-    "x/3456789_123456789_123456789_12",
-];
 const PROCESSES: [u64; 8] = [0, 5, 6, 7, 8, 9, LAST_PROCESS, LAST_PROCESS + 1];
 const USERS: [u32; 3] = [0, 7, 8];
 const PAGES: [u64; 5] = [0, 1, 1_048_576, 1_048_577, u64::MAX];
@@ -60,7 +48,6 @@ pub fn calls() -> Vec<Call> {
     calls.extend(effects::calls());
     calls.extend(devices::calls());
     calls.extend(zombies::calls());
-    calls.extend(paths::calls());
     calls
 }
 
@@ -69,7 +56,7 @@ pub fn calls() -> Vec<Call> {
 /// and user 8's, stand in 4 and find no room above it; 9, user 7's, is in the root. Zombies are 7 in
 /// group 7, which was removed, as was 6 above it, and 8 in group 4. The ladder goes down from the root.
 fn tree() -> Vec<Call> {
-    let make = |user, parent, group| Call::numbered(user, parent, group);
+    let make = |user, parent, group| Call::Make { user, parent, group };
     let control =
         |group, line: &str| Call::WriteSubtreeControl { user: 0, group, line: line.into() };
     let procs = |group, line: &str| Call::WriteProcs { user: 0, group, line: line.into() };
@@ -158,14 +145,7 @@ fn every(name: &str) -> Vec<Call> {
     let by_process = |calls: &dyn Fn(u64) -> Vec<Call>| PROCESSES.map(calls).concat();
     match name {
         "make" => {
-            let make = |user, parent, group, name: &&str| {
-                let name = name.as_bytes().to_vec();
-                Call::Make { user, parent, group, name }
-            };
-            by_user(&|user, parent| {
-                let named = |group| NAMES.iter().map(move |name| make(user, parent, group, name));
-                GROUPS.into_iter().flat_map(named).collect()
-            })
+            by_user(&|user, parent| GROUPS.map(|group| Call::Make { user, parent, group }).to_vec())
         }
         "remove" => by_user(&|user, group| vec![Call::Remove { user, group }]),
         "hand_over" => by_user(&|user, group| vec![Call::HandOver { user, group, owner: 7 }]),
@@ -212,23 +192,8 @@ fn every(name: &str) -> Vec<Call> {
         "membership" => {
             by_process(&|process| [0, ROOM].map(|room| Call::Membership { process, room }).to_vec())
         }
-        "walk" => by_user(&|_, group| {
-            let paths = paths().into_iter();
-            paths.map(|path| Call::Walk { group, path }).collect()
-        }),
         _ => unreachable!("no arguments for {name}"),
     }
-}
-
-/// Paths that lead somewhere from the root, that do not, and that are bad, each for one cause and the
-/// last for all.
-fn paths() -> Vec<Vec<u8>> {
-    let long = "/x".repeat(513).into_bytes().split_off(1);
-    let mut paths = vec![b"".to_vec(), b"1".to_vec(), b"1/2".to_vec(), b"x".to_vec(), long];
-    paths.extend(["1/", "1/x y", "x/.", "1/2/.."].map(Into::into));
-    paths.push(vec![b'x'; 32]);
-    paths.push([&b"/./ /"[..], &[b'x'; 1025]].concat());
-    paths
 }
 
 /// Every line of so many words or fewer, and the same drawn out to 129 bytes.

@@ -102,5 +102,5 @@ fn meetings() -> Vec<Call> {
 }
 
 fn make_beside(above: u64) -> Call {
-    Call::numbered(0, above, BESIDE)
+    Call::Make { user: 0, parent: above, group: BESIDE }
 }

@@ -10,7 +10,7 @@ const GROUP: u64 = 21;
 const MOST: u64 = 4_503_599_627_370_496;
 
 pub fn calls() -> Vec<Call> {
-    let mut calls = vec![Call::numbered(0, 0, GROUP)];
+    let mut calls = vec![Call::Make { user: 0, parent: 0, group: GROUP }];
     for held in [1, 4] {
         calls.extend((0..held).map(|minor| write(format!("8:{} rbps=5 riops=6", 16 + minor))));
         calls.extend(forms().into_iter().map(write));

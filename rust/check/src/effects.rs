@@ -9,7 +9,7 @@ const PROCESS: u64 = 22;
 
 pub fn calls() -> Vec<Call> {
     let mut calls = vec![
-        Call::numbered(0, 0, GROUP),
+        Call::Make { user: 0, parent: 0, group: GROUP },
         Call::Admit { process: PROCESS, user: 7 },
         Call::WriteProcs { user: 0, group: GROUP, line: PROCESS.to_string().into() },
     ];

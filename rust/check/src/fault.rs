@@ -9,16 +9,14 @@ use crate::around::Around;
 use crate::call::Call;
 use crate::calls::Calls;
 use crate::checks::Check;
-use crate::model::{Group, Model};
+use crate::model::{Model, Settings};
 
 mod devices;
 mod instead;
-mod names;
 mod outcomes;
 mod readers;
 mod sizes;
 mod table;
-mod walks;
 mod zombies;
 
 /// What a wrong host does otherwise.
@@ -30,7 +28,7 @@ enum Slip {
     Outcome(fn(&mut Outcome)),
     /// It shows a reader something else. Answers the number that the reader gets.
     Reader(fn(&mut Reading) -> u32),
-    /// Of a call that can change the tree, or of a walk, it makes the second check before the first.
+    /// Of a call that can change the tree it makes the second check before the first.
     Swapped(&'static Check, &'static Check),
 }
 
@@ -63,9 +61,9 @@ struct Outcome<'a> {
     after: &'a mut Model,
     number: &'a mut u32,
     told: &'a mut [u64; 2],
-    /// Groups that were removed, for a host that does not forget them, or forgets too late that there
-    /// were any.
-    removed: &'a mut BTreeMap<u64, Group>,
+    /// The settings of groups that were removed, for a host that does not forget them, or forgets
+    /// too late that there were any.
+    removed: &'a mut BTreeMap<u64, Settings>,
 }
 
 impl Outcome<'_> {
@@ -88,7 +86,7 @@ impl Outcome<'_> {
 /// A reader's question that the model has answered.
 struct Reading<'a> {
     model: &'a Model,
-    /// A read, a membership line or a walk.
+    /// A read or a membership line.
     call: &'a Call,
     number: u32,
     reply: &'a mut [u8],
@@ -101,7 +99,7 @@ struct Reading<'a> {
 pub struct Faulty {
     model: Model,
     slip: Slip,
-    removed: BTreeMap<u64, Group>,
+    removed: BTreeMap<u64, Settings>,
 }
 
 impl Faulty {
@@ -158,12 +156,6 @@ impl Around for Faulty {
             Slip::Reader(change) => {
                 let number = call.ask(&self.model, told, reply);
                 change(&mut Reading { model: &self.model, call: &call, number, reply, told })
-            }
-            Slip::Swapped(first, second) if matches!(call, Call::Walk { .. }) => {
-                let held = self.model.held(&call);
-                let number = call.ask(&self.model, told, reply);
-                let is_swapped = held.first() == Some(&first) && held.contains(&second);
-                if is_swapped { second.number() } else { number }
             }
             Slip::Outcome(_) | Slip::Swapped(..) => call.ask(&self.model, told, reply),
         }

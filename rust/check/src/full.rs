@@ -1,13 +1,12 @@
-//! A list of calls for which a seed's are too few: every group and every process live, names as long as
-//! can be, counts at their ends and the longest texts; processes that go about; then all groups but those of the ladder removed
+//! A list of calls for which a seed's are too few: every group and every process live, counts at their
+//! ends and the longest texts; processes that go about; then all groups but those of the ladder removed
 //! and made again below the root, with settings that one line resets in all of them; at last every
 //! process a zombie, and the group of all of them removed.
 
 use crate::call::Call;
 use crate::compare::ROOM;
 use crate::crossed::LADDER;
-use crate::generate::names::FAMILY;
-use crate::model::{LAST_GROUP, LAST_PROCESS, LONGEST_NAME};
+use crate::model::{LAST_GROUP, LAST_PROCESS};
 
 pub const MACHINE: u64 = 1 << 21;
 
@@ -39,41 +38,6 @@ fn groups() -> Vec<Call> {
     calls.extend((1..LADDER).map(|group| make(group / 2, group)));
     calls.extend([make(0, LAST_GROUP), make(1, LAST_GROUP + 1), make(LAST_GROUP + 1, 1)]);
     calls.extend([make(BOTTOM, LAST_GROUP + 1), control(LADDER, "-cpu")]);
-    calls.extend(walks());
-    calls
-}
-
-/// The names of the ladder are as long as can be, and apart in their last byte only; the others share
-/// two, one for each of two siblings.
-fn name(group: u64) -> Vec<u8> {
-    let mut name = FAMILY.to_vec();
-    match group {
-        LADDER.. => name[LONGEST_NAME - 1] = b'A' + (group - LADDER) as u8,
-        _ if group.is_multiple_of(2) => name = b"even".to_vec(),
-        _ => name = b"odd".to_vec(),
-    }
-    name
-}
-
-/// The path of a group as `groups` makes it.
-fn path(group: u64) -> Vec<u8> {
-    let above = |&group: &u64| {
-        let above = if group < LADDER { group / 2 } else { group - 1 };
-        (above > 0 && group != LADDER).then_some(above)
-    };
-    let mut names: Vec<Vec<u8>> = std::iter::successors(Some(group), above).map(name).collect();
-    names.reverse();
-    names.join(&b'/')
-}
-
-/// To every group from the root; and a byte less, which leads nowhere or to another.
-fn walks() -> Vec<Call> {
-    let walk = |path: &[u8]| Call::Walk { group: 0, path: path.to_vec() };
-    let mut calls = vec![];
-    for group in 1..=LAST_GROUP {
-        let path = path(group);
-        calls.extend([walk(&path), walk(&path[..path.len() - 1])]);
-    }
     calls
 }
 
@@ -102,12 +66,13 @@ fn processes() -> Vec<Call> {
 /// and more.
 fn longest_texts() -> Vec<Call> {
     let listed = (1..=LAST_PROCESS).map(|process| process.to_string().len() + 1).sum::<usize>();
-    let line = "0::/\n".len() + path(BOTTOM).len();
+    let path = (LADDER..=BOTTOM).map(|group| group.to_string().len() + 1).sum::<usize>();
+    let line = "0::".len() + path + "\n".len();
     let mut calls = vec![];
     for room in [listed, listed - 1, listed + 1, 916, 0, ROOM] {
         calls.push(Call::Read { group: BOTTOM, file: b"cgroup.procs".to_vec(), room });
     }
-    for room in [line, line - 1, line + 1, line % 256, 0, ROOM] {
+    for room in [line, line - 1, line + 1, 28, 0, ROOM] {
         calls.push(Call::Membership { process: LAST_PROCESS, room });
     }
     calls
@@ -127,15 +92,12 @@ fn visits() -> Vec<Call> {
     calls
 }
 
-/// From the lowest up; then each below the root, with another name and with settings. The controllers leave one after the
+/// From the lowest up; then each below the root, with settings. The controllers leave one after the
 /// other, and join again so that what is left of the settings shows.
 fn made_again() -> Vec<Call> {
     let mut calls: Vec<Call> =
         (1..LADDER).rev().map(|group| Call::Remove { user: 0, group }).collect();
-    calls.extend((1..LADDER).map(|group| {
-        let name = format!("tape-{group}").into();
-        Call::Make { user: 0, parent: 0, group, name }
-    }));
+    calls.extend((1..LADDER).map(|group| make(0, group)));
     for group in (1..LADDER).chain([LADDER]) {
         let (file, figure) = match group % 4 {
             0 => ("cpu.weight", group.to_string()),
@@ -173,8 +135,8 @@ fn endings() -> Vec<Call> {
     calls.extend([fork(1, 2), Call::Admit { process: 1, user: 7 }]);
     calls.push(Call::Read { group: BOTTOM, file: b"cgroup.procs".to_vec(), room: 0 });
     calls.extend([Call::Remove { user: 0, group: BOTTOM }, make(BOTTOM - 1, BOTTOM)]);
-    let line = "0::/ (deleted)\n".len() + path(BOTTOM).len();
-    for room in [line, line - 1, line + 1, line - 10, 0, ROOM] {
+    let line = "0::".len() + "/255".len() * (BOTTOM + 1 - LADDER) as usize + " (deleted)\n".len();
+    for room in [line, line - 1, line + 1, 68, 0, ROOM] {
         calls.push(Call::Membership { process: LAST_PROCESS, room });
     }
     let middle = LAST_PROCESS / 2;
@@ -185,7 +147,7 @@ fn endings() -> Vec<Call> {
 }
 
 fn make(parent: u64, group: u64) -> Call {
-    Call::Make { user: 0, parent, group, name: name(group) }
+    Call::Make { user: 0, parent, group }
 }
 
 fn control(group: u64, line: &str) -> Call {

@@ -14,7 +14,6 @@ use crate::random::Random;
 mod arguments;
 mod devices;
 mod lines;
-pub mod names;
 mod scenes;
 mod singles;
 mod taste;

@@ -63,7 +63,7 @@ fn ladder() -> Vec<Call> {
 }
 
 fn make(parent: u64, group: u64) -> Call {
-    Call::numbered(0, parent, group)
+    Call::Make { user: 0, parent, group }
 }
 
 fn enter(group: u64) -> Call {

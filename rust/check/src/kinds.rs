@@ -1,27 +1,24 @@
 //! The kinds of what is read and asked: values of each file, lengths of buffers and lines, names,
 //! lines of the question, pages released, the last numbers in every place, limits and meetings above
-//! the deepest level, devices, zombies, names and paths.
+//! the deepest level, devices, zombies.
 
 use crate::call::Call;
 use crate::calls::Calls;
 use crate::checks::{Check, membership, read, write_procs, write_setting, write_subtree_control};
 use crate::compare::{FILES, ROOM};
-use crate::model::{DEEPEST, LAST_PROCESS, LONGEST_NAME, MEMORY, Model, control_word, words};
+use crate::model::{DEEPEST, LAST_PROCESS, MEMORY, Model, control_word, words};
 
 mod devices;
-mod names;
 mod numbers;
-mod paths;
 mod zombies;
 
-pub use names::Gone;
 pub use zombies::Freed;
 
 /// The lengths of the longest texts, as the papers have them: 1 to 1024, each with a newline; "0::",
-/// sixteen names of 31 bytes, each after a "/", and a newline; and the same with " (deleted)".
+/// sixteen numbers of three digits, each after a "/", and a newline; and the same with " (deleted)".
 const LONGEST_LISTING: usize = 4013;
-const LONGEST_LINE: usize = 516;
-const LONGEST_DELETED: usize = 526;
+const LONGEST_LINE: usize = 68;
+const LONGEST_DELETED: usize = 78;
 const LONGEST: &[&str] =
     &["cgroup.procs", "membership in a live group", "membership in a removed group"];
 
@@ -182,19 +179,6 @@ pub const KINDS: &[(&str, &[&str])] = &[
     ("after its collection, again", zombies::AGAIN),
     ("line with \" (deleted)\", buffer of exactly the length", zombies::LENGTHS),
     ("line with \" (deleted)\", buffer one byte short", zombies::LENGTHS),
-    ("make with a name", names::MADE),
-    ("make, the name is", names::BESIDE),
-    ("make, a name refused", names::REFUSED),
-    ("make, the name is taken", names::TAKEN),
-    ("walk", paths::PATHS),
-    ("walk from the root, found", paths::COUNTS),
-    ("walk from below, found", paths::COUNTS.split_at(DEEPEST).0),
-    ("walk, not found after", paths::COUNTS),
-    ("walk, a path refused", paths::BAD_PATHS),
-    ("walk from nowhere", paths::DEAD),
-    ("zombie's line", names::LINES),
-    ("line in a live group, buffer of exactly the length", zombies::LONG_LINES),
-    ("line in a live group, buffer one byte short", zombies::LONG_LINES),
     ("read, last byte of the name off by one", NAMES),
     ("read, name a byte less", NAMES),
     ("read, name a byte more", NAMES),
@@ -247,11 +231,6 @@ fn kind(what: &str, name: &str) -> Kind {
     let found =
         named.and_then(|(what, names)| Some((*what, *names.iter().find(|named| **named == name)?)));
     found.unwrap_or_else(|| panic!("no such kind: {what} {name}"))
-}
-
-/// The rows that hold.
-fn kinds_of(what: &str, rows: &[(bool, &str)]) -> Vec<Kind> {
-    rows.iter().filter(|(holds, _)| *holds).map(|(_, name)| kind(what, name)).collect()
 }
 
 /// The kind of a file's text.
@@ -313,27 +292,25 @@ pub fn values(model: &Model) -> Vec<Kind> {
         }
     }
     let processes = model.live_processes().filter_map(|process| model.process(process));
-    kinds.extend(processes.map(|p| kind("membership", depth_name(model, &model.chain(p.group)))));
+    kinds.extend(processes.map(|p| kind("membership", depth_name(&model.chain(p.group)))));
     kinds.extend(model.zombies().map(|zombie| {
         let path = model.path(zombie);
         let what = match model.is_on_zombies_path(path[0]) {
             true => "membership of a zombie, deleted",
             false => "membership of a zombie",
         };
-        kind(what, depth_name(model, &path))
+        kind(what, depth_name(&path))
     }));
     kinds.extend(zombies::values(model));
-    kinds.extend(names::values(model));
     kinds
 }
 
 /// How deep a group is, by its chain.
-fn depth_name(model: &Model, chain: &[u64]) -> &'static str {
-    let is_longest = |&group: &u64| model.name(group).len() == LONGEST_NAME;
+fn depth_name(chain: &[u64]) -> &'static str {
     match chain.len() - 1 {
         0 => "the root",
         1 => "depth 1",
-        DEEPEST if chain[..DEEPEST].iter().all(is_longest) => "depth 16, the longest",
+        DEEPEST if chain[..DEEPEST].iter().all(|&group| group > 99) => "depth 16, the longest",
         DEEPEST => "depth 16",
         _ => "deeper",
     }
@@ -343,8 +320,6 @@ fn depth_name(model: &Model, chain: &[u64]) -> &'static str {
 pub fn of_call(model: &Model, call: &Call, held: &[&'static Check]) -> Vec<Kind> {
     let mut kinds = numbers::of_call(call, held);
     kinds.extend(zombies::of_call(model, call, held));
-    kinds.extend(names::of_call(model, call, held));
-    kinds.extend(paths::of_call(model, call, held));
     kinds.extend(of_arguments(model, call, held));
     kinds
 }
@@ -443,8 +418,8 @@ fn buffer(
     }
     let own = call.processes().first().and_then(|n| model.path(*n).first().copied());
     let is_deleted = own.is_some_and(|own| model.is_on_zombies_path(own));
-    if text == "membership" {
-        kinds.extend(zombies::line(length, given, is_deleted));
+    if is_deleted {
+        kinds.extend(zombies::line(length, given));
     }
     let longest = match (text, length) {
         ("cgroup.procs", LONGEST_LISTING) => Some("cgroup.procs"),

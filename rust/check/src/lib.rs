@@ -8,9 +8,9 @@
 //! - [`generate`]: lists of calls from a seed
 //! - [`crossed`], [`heap`], [`full`]: three lists more, for pairs of checks, for many pages, and for
 //!   every group and every process
-//! - [`sizes`], [`names`], [`depths`], [`effects`], [`devices`], [`zombies`], [`paths`]: parts of the
-//!   first: long lines and large buffers, near names of files, limits above the deepest level, what a
-//!   line leaves, lines of io.max, zombies, names of groups
+//! - [`sizes`], [`names`], [`depths`], [`effects`], [`devices`], [`zombies`]: parts of the first: long
+//!   lines and large buffers, near names, limits above the deepest level, what a line leaves, lines of
+//!   io.max, zombies
 //! - [`compare`], [`explore`]: one list, and many
 //! - [`counts`], [`kinds`]: what the lists came to, and what they never did
 //! - [`shrink`]: a short list from a long one
@@ -37,7 +37,6 @@ pub mod kinds;
 pub mod linked;
 pub mod model;
 pub mod names;
-pub mod paths;
 mod random;
 pub mod recorded;
 pub mod replay;

@@ -35,10 +35,8 @@ impl Calls for Linked {
         linked
     }
 
-    fn make(&mut self, user: u32, parent: u64, group: u64, name: &[u8]) -> u32 {
-        let (tree, user) = (self.tree_mut(), User(user));
-        let (parent, group) = (GroupId(parent), GroupId(group));
-        unsafe { sys::ss_make(tree, user, parent, group, name.as_ptr(), name.len()) }
+    fn make(&mut self, user: u32, parent: u64, group: u64) -> u32 {
+        unsafe { sys::ss_make(self.tree_mut(), User(user), GroupId(parent), GroupId(group)) }
     }
 
     fn remove(&mut self, user: u32, group: u64) -> u32 {
@@ -104,11 +102,6 @@ impl Calls for Linked {
         unsafe {
             sys::ss_membership(self.tree(), ProcessId(process), text, room, told.as_mut_ptr())
         }
-    }
-
-    fn walk(&self, group: u64, path: &[u8], told: &mut [u64; 2]) -> u32 {
-        let (bytes, length) = (path.as_ptr(), path.len());
-        unsafe { sys::ss_walk(self.tree(), GroupId(group), bytes, length, told.as_mut_ptr()) }
     }
 
     fn first_bad_word(&self, line: &[u8], told: &mut [u64; 2]) {

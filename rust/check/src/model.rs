@@ -22,14 +22,12 @@ mod files;
 mod follows;
 mod groups;
 mod lines;
-mod names;
 mod processes;
 mod readers;
 
 pub use devices::{Device, Held, KEYS, Limits};
 pub(crate) use devices::{DeviceLine, NO_LIMITS, listed_devices};
 pub(crate) use lines::{control_word, number, words};
-pub(crate) use names::{is_name, names};
 
 const ROOT: u64 = 0;
 /// Groups are 0 to 255, processes 1 to 1024, and depth goes to 16: order 4.
@@ -40,9 +38,6 @@ const PAGE: u64 = 4096;
 const LARGEST_MACHINE: u64 = 1 << 40;
 const MOST_PAGES: u64 = 1_048_576;
 const LONGEST_LINE: usize = 128;
-/// Of a name, and of a path: order 6.
-pub const LONGEST_NAME: usize = 31;
-pub const LONGEST_PATH: usize = 1024;
 
 /// The controllers, in the order of listing.
 pub const CONTROLLERS: [&str; 4] = ["cpu", "io", "memory", "pids"];
@@ -62,8 +57,6 @@ pub type Limit = Option<u64>;
 #[derive(Clone)]
 pub struct Group {
     pub parent: u64,
-    /// The root has none.
-    pub name: Vec<u8>,
     pub owner: u32,
     pub set: Set,
     pub own_pages: u64,
@@ -96,23 +89,16 @@ pub struct Process {
     pub group: u64,
 }
 
-/// What is kept of a removed group.
-#[derive(Clone)]
-pub(crate) struct Removed {
-    pub parent: u64,
-    pub name: Vec<u8>,
-}
-
 /// The machine size, the live groups at the places of their numbers, and the live processes by their
-/// numbers; the group of each zombie by its number; and the parents and names of removed groups, as
-/// long as a zombie's path runs through them.
+/// numbers; the group of each zombie by its number; and the parents of removed groups, as long as a
+/// zombie's path runs through them.
 #[derive(Clone)]
 pub struct Model {
     machine: u64,
     groups: Vec<Option<Box<Group>>>,
     processes: BTreeMap<u64, Process>,
     pub(crate) zombies: BTreeMap<u64, u64>,
-    pub(crate) removed: BTreeMap<u64, Removed>,
+    pub(crate) removed: BTreeMap<u64, u64>,
 }
 
 fn is_outside(process: u64) -> bool {

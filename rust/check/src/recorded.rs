@@ -47,7 +47,7 @@ pub struct Entry {
 #[derive(Clone, PartialEq, Eq, Debug)]
 pub struct Reply {
     pub number: u32,
-    /// The group that had no room, or that a walk reached.
+    /// The group that had no room.
     pub group: Option<u64>,
     pub text: Option<Vec<u8>>,
 }
@@ -174,16 +174,12 @@ impl Entry {
 }
 
 /// The arguments are those of document 01, in its order. A buffer has room for any text, unless its
-/// size is told; a group has its number for a name, unless another is told.
+/// size is told.
 fn parse_call(tokens: &mut Tokens) -> Parsed<Call> {
     let name = tokens.word()?;
     Ok(match name.as_str() {
         "make" => {
-            let (user, parent, group) = (tokens.number()?, tokens.number()?, tokens.number()?);
-            match tokens.is_next("=") {
-                true => Call::numbered(user, parent, group),
-                false => Call::Make { user, parent, group, name: tokens.text()? },
-            }
+            Call::Make { user: tokens.number()?, parent: tokens.number()?, group: tokens.number()? }
         }
         "remove" => Call::Remove { user: tokens.number()?, group: tokens.number()? },
         "handover" => Call::HandOver {
@@ -217,7 +213,6 @@ fn parse_call(tokens: &mut Tokens) -> Parsed<Call> {
             Call::Read { group: tokens.number()?, file: tokens.file()?, room: parse_room(tokens)? }
         }
         "member" => Call::Membership { process: tokens.number()?, room: parse_room(tokens)? },
-        "walk" => Call::Walk { group: tokens.number()?, path: tokens.text()? },
         _ => return Err(format!("{name:?} is no call")),
     })
 }
@@ -232,14 +227,12 @@ fn parse_room(tokens: &mut Tokens) -> Parsed<usize> {
 
 impl Reply {
     /// What has to be told is told, and nothing else: the group exactly where a charge or a fork
-    /// found no room or a walk reached it, the text exactly where one was read.
+    /// found no room, the text exactly where one was read.
     fn parse(call: &Call, tokens: &mut Tokens) -> Parsed<Reply> {
         let number = tokens.number()?;
         let (mut group, mut text) = (None, None);
         match (call, number) {
-            (Call::Fork { .. }, NO_PIDS)
-            | (Call::Charge { .. }, NO_MEMORY)
-            | (Call::Walk { .. }, 0) => {
+            (Call::Fork { .. }, NO_PIDS) | (Call::Charge { .. }, NO_MEMORY) => {
                 tokens.keyword("group")?;
                 group = Some(tokens.number()?);
             }
@@ -252,9 +245,8 @@ impl Reply {
     /// An answer, as a case tells it.
     #[must_use]
     pub fn of(case: &Case, call: &Call, answer: &Answer) -> Reply {
-        let tells_group =
-            matches!(call, Call::Charge { .. } | Call::Fork { .. } | Call::Walk { .. });
-        let group = (tells_group && answer.told[0] != NO_GROUP).then_some(answer.told[0]);
+        let asks_room = matches!(call, Call::Charge { .. } | Call::Fork { .. });
+        let group = (asks_room && answer.told[0] != NO_GROUP).then_some(answer.told[0]);
         let mut text = answer.text();
         if lists_all_controllers(call) && !case.controllers.is_empty() {
             text = text.map(|text| cut(&text, &case.controllers));

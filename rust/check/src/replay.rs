@@ -90,7 +90,7 @@ impl Tally {
         *self += Tally {
             calls: 1,
             refused: u64::from(*number != 0),
-            groups: u64::from(group.is_some() && *number != 0),
+            groups: u64::from(group.is_some()),
             texts: u64::from(text.is_some()),
             differences: u64::from(entry.linux.is_some()),
         };

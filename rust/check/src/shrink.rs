@@ -20,8 +20,7 @@ pub fn shrink(
         let merged = search.merge(&mut calls);
         let plainer = search.make_plainer(&mut calls);
         let renumbered = search.renumber(&mut calls);
-        let renamed = search.rename(&mut calls);
-        if !(left_out || merged || plainer || renumbered || renamed) {
+        if !(left_out || merged || plainer || renumbered) {
             return calls;
         }
     }
@@ -129,20 +128,6 @@ impl<F: Fn(&[Call]) -> Option<usize>> Search<F> {
         groups || processes
     }
 
-    /// Gives groups names of one letter, in paths too.
-    fn rename(&self, calls: &mut Vec<Call>) -> bool {
-        let mut any = false;
-        for old in names(calls).into_iter().filter(|name| name.len() > 1) {
-            let named = names(calls);
-            let free = (b'a'..=b'z').map(|letter| vec![letter]).find(|name| !named.contains(name));
-            if let Some(new) = free {
-                any |= self
-                    .attempt(calls, |best| best.iter().map(|c| with_name(c, &old, &new)).collect());
-            }
-        }
-        any
-    }
-
     fn renumber_each(
         &self,
         calls: &mut Vec<Call>,
@@ -164,15 +149,6 @@ impl<F: Fn(&[Call]) -> Option<usize>> Search<F> {
         }
         any
     }
-}
-
-/// The names that calls make groups with.
-fn names(calls: &[Call]) -> BTreeSet<Vec<u8>> {
-    let named = calls.iter().filter_map(|call| match call {
-        Call::Make { name, .. } => Some(name.clone()),
-        _ => None,
-    });
-    named.collect()
 }
 
 /// The groups in range that calls name.
@@ -263,7 +239,7 @@ fn each_number(call: &mut Call, mut visit: impl FnMut(&mut u64)) {
         *user = wide as u32;
     };
     match call {
-        Call::Make { user, parent, group, .. } => {
+        Call::Make { user, parent, group } => {
             user_of(user, &mut visit);
             visit(parent);
             visit(group);
@@ -297,7 +273,6 @@ fn each_number(call: &mut Call, mut visit: impl FnMut(&mut u64)) {
             visit(group);
             visit(pages);
         }
-        Call::Walk { group, .. } => visit(group),
         Call::Read { group, room, .. } => {
             visit(group);
             let mut wide = *room as u64;
@@ -320,8 +295,6 @@ fn each_line(call: &mut Call, mut visit: impl FnMut(&mut Vec<u8>)) {
         | Call::WriteSubtreeControl { line, .. }
         | Call::WriteSetting { line, .. }
         | Call::FirstBadWord { line } => visit(line),
-        Call::Make { name, .. } => visit(name),
-        Call::Walk { path, .. } => visit(path),
         _ => {}
     }
 }
@@ -338,8 +311,7 @@ fn each_group(call: &mut Call, mut visit: impl FnMut(&mut u64)) {
         | Call::WriteSubtreeControl { group, .. }
         | Call::WriteSetting { group, .. }
         | Call::Release { group, .. }
-        | Call::Read { group, .. }
-        | Call::Walk { group, .. } => visit(group),
+        | Call::Read { group, .. } => visit(group),
         Call::Admit { .. }
         | Call::Fork { .. }
         | Call::Exit { .. }
@@ -391,19 +363,5 @@ fn with_process(call: &Call, old: u64, new: u64) -> Call {
             *number = new;
         }
     });
-    call
-}
-
-fn with_name(call: &Call, old: &[u8], new: &[u8]) -> Call {
-    let renamed = |name: &[u8]| if name == old { new.to_vec() } else { name.to_vec() };
-    let mut call = call.clone();
-    match &mut call {
-        Call::Make { name, .. } => *name = renamed(name),
-        Call::Walk { path, .. } => {
-            let names = path.split(|&byte| byte == b'/').map(renamed);
-            *path = names.collect::<Vec<_>>().join(&b'/');
-        }
-        _ => {}
-    }
     call
 }

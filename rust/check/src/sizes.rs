@@ -14,7 +14,10 @@ const GROUP: u64 = 20;
 const PROCESS: u64 = 20;
 
 pub fn calls(model: &Model) -> Vec<Call> {
-    let mut calls = vec![Call::numbered(0, 0, GROUP), Call::Admit { process: PROCESS, user: 0 }];
+    let mut calls = vec![
+        Call::Make { user: 0, parent: 0, group: GROUP },
+        Call::Admit { process: PROCESS, user: 0 },
+    ];
     for power in POWERS {
         for more in [4, 100, 128] {
             let length = power + more;

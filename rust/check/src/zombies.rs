@@ -114,7 +114,7 @@ fn on_a_removed_group(group: u64) -> Vec<Call> {
     vec![
         make(group, DIGITS[0]),
         make(group, group),
-        Call::numbered(7, 0, group),
+        Call::Make { user: 7, parent: 0, group },
         remove(group),
         Call::HandOver { user, group, owner: 7 },
         enter(group, 9),
@@ -173,7 +173,7 @@ fn no_zombies() -> Vec<Call> {
 }
 
 fn make(parent: u64, group: u64) -> Call {
-    Call::numbered(0, parent, group)
+    Call::Make { user: 0, parent, group }
 }
 
 fn remove(group: u64) -> Call {

@@ -4,7 +4,7 @@
 #[path = "common/shows.rs"]
 mod shows;
 
-use shootspiral_check::Call::{self, FirstBadWord, WriteSetting, WriteSubtreeControl};
+use shootspiral_check::Call::{self, FirstBadWord, Make, WriteSetting, WriteSubtreeControl};
 use shows::shows;
 
 /// Each fault, and lines to io.max of one group after which it shows.
@@ -61,7 +61,7 @@ fn write(line: &str) -> Call {
 }
 
 fn tree() -> Vec<Call> {
-    vec![Call::numbered(0, 0, 1), control("+io")]
+    vec![Make { user: 0, parent: 0, group: 1 }, control("+io")]
 }
 
 #[test]

@@ -28,7 +28,7 @@ both! {
 /// A host where io is on in group 1.
 fn with_io<H: Calls>() -> H {
     let mut host = H::fresh(0);
-    assert_eq!(host.make_numbered(0, 0, 1), 0);
+    assert_eq!(host.make(0, 0, 1), 0);
     assert_eq!(host.write_subtree_control(0, 0, b"+io"), 0);
     host
 }

@@ -31,7 +31,7 @@ fn setting<H: Calls>(host: &mut H, group: u64, file: &str, line: &str) -> u32 {
 /// Group 1 under the root, cpu, memory and pids on in it.
 fn one_group<H: Calls>() -> H {
     let mut host = H::fresh(1024);
-    assert_eq!(host.make_numbered(0, ROOT, 1), 0);
+    assert_eq!(host.make(0, ROOT, 1), 0);
     assert_eq!(host.write_subtree_control(0, ROOT, b"+cpu +memory +pids"), 0);
     host
 }
@@ -41,8 +41,8 @@ fn one_group<H: Calls>() -> H {
 ///       └ 2  max 32768, process 5
 fn p1_to_p5_charges_up_the_chain<H: Calls>() {
     let mut host = H::fresh(1024);
-    assert_eq!(host.make_numbered(0, ROOT, 1), 0);
-    assert_eq!(host.make_numbered(0, 1, 2), 0);
+    assert_eq!(host.make(0, ROOT, 1), 0);
+    assert_eq!(host.make(0, 1, 2), 0);
     assert_eq!(host.write_subtree_control(0, ROOT, b"+memory"), 0);
     assert_eq!(host.write_subtree_control(0, 1, b"+memory"), 0);
     assert_eq!(setting(&mut host, 1, "memory.max", "40960"), 0);
@@ -111,13 +111,13 @@ fn p9_the_last_word_counts<H: Calls>() {
 fn p10_the_common_ancestor<H: Calls>() {
     let mut host = H::fresh(1024);
     for (parent, group) in [(0, 1), (1, 2), (1, 3)] {
-        assert_eq!(host.make_numbered(0, parent, group), 0);
+        assert_eq!(host.make(0, parent, group), 0);
     }
     for group in [2, 3] {
         assert_eq!(host.hand_over(0, group, 1000), 0);
-        assert_eq!(host.make_numbered(1000, group, group + 2), 0);
+        assert_eq!(host.make(1000, group, group + 2), 0);
     }
-    assert_eq!(host.make_numbered(1000, 2, 6), 0);
+    assert_eq!(host.make(1000, 2, 6), 0);
     assert_eq!(host.admit(9, 1000), 0);
     assert_eq!(host.write_procs(0, 5, b"9"), 0);
     assert_eq!(host.write_procs(1000, 4, b"9"), 13);
@@ -127,21 +127,17 @@ fn p10_the_common_ancestor<H: Calls>() {
     assert_eq!(host.write_procs(1000, 4, b"9"), 0);
 }
 
-/// As order 6 has it.
 fn p11_membership_line<H: Calls>() {
     let mut host = H::fresh(1024);
-    assert_eq!(host.make(0, ROOT, 3, b"tape-3"), 0);
-    assert_eq!(host.make(0, 3, 7, b"b"), 0);
+    assert_eq!(host.make(0, ROOT, 3), 0);
+    assert_eq!(host.make(0, 3, 7), 0);
     assert_eq!(host.admit(5, 0), 0);
-    let (mut reply, mut told) = ([b'.'; 15], [77]);
+    let (mut reply, mut told) = ([b'.'; 10], [77]);
     assert_eq!(host.membership(5, &mut reply, &mut told), 0);
-    assert_eq!((&reply, told), (b"0::/\n..........", [5]));
+    assert_eq!((&reply, told), (b"0::/\n.....", [5]));
     assert_eq!(host.write_procs(0, 7, b"5"), 0);
-    assert_eq!(host.membership(5, &mut reply[..12], &mut told), 28);
-    assert_eq!((&reply, told), (b"0::/\n..........", [0]));
     assert_eq!(host.membership(5, &mut reply, &mut told), 0);
-    assert_eq!((&reply, told), (b"0::/tape-3/b\n..", [13]));
-    assert_eq!(host.membership(5, &mut reply[..13], &mut told), 0);
+    assert_eq!((&reply, told), (b"0::/3/7\n..", [8]));
 }
 
 fn whole_replies<H: Calls>() {
@@ -164,10 +160,10 @@ fn whole_replies<H: Calls>() {
 fn depths<H: Calls>() {
     let mut host = H::fresh(1024);
     for depth in 0..16 {
-        assert_eq!(host.make_numbered(0, depth, depth + 1), 0, "under depth {depth}");
+        assert_eq!(host.make(0, depth, depth + 1), 0, "under depth {depth}");
     }
-    assert_eq!(host.make_numbered(0, 16, 17), 11);
-    assert_eq!(host.make_numbered(0, 15, 17), 0);
+    assert_eq!(host.make(0, 16, 17), 11);
+    assert_eq!(host.make(0, 15, 17), 0);
 }
 
 ///     0 (9 pages)
@@ -177,7 +173,7 @@ fn depths<H: Calls>() {
 fn consulted_counts<H: Calls>() {
     let mut host = H::fresh(9);
     for group in 1..=3 {
-        assert_eq!(host.make_numbered(0, group - 1, group), 0);
+        assert_eq!(host.make(0, group - 1, group), 0);
     }
     assert_eq!(host.write_subtree_control(0, ROOT, b"+memory +pids"), 0);
     assert_eq!(setting(&mut host, 1, "pids.max", "2"), 0);

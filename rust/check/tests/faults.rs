@@ -20,7 +20,7 @@ fn without_a_fault_nothing_is_found() {
 }
 
 /// Of each kind of fault one that a handful of calls shows.
-const SHORTLY_SHOWN: [(&str, usize); 15] = [
+const SHORTLY_SHOWN: [(&str, usize); 11] = [
     ("a number with leading zeros is malformed", 3),
     ("a charge refused further up leaves pages behind", 8),
     ("a move asks source and target, not their common ancestor", 8),
@@ -32,10 +32,6 @@ const SHORTLY_SHOWN: [(&str, usize); 15] = [
     ("pids.max counts zombies", 10),
     ("a zombie's path is cut at the removed group", 5),
     ("a removed number is made again though a zombie's path comes from below", 8),
-    ("a cousin's name is taken", 3),
-    ("names are told apart by 16 bytes", 2),
-    ("a walk goes through removed groups", 6),
-    ("a group made again keeps its old name", 3),
 ];
 
 #[test]
@@ -54,7 +50,7 @@ fn short_lists_are_found() {
 fn the_checks_are_those_of_the_table() {
     let (file, line, room) = (vec![], vec![], 0);
     let calls = [
-        Call::numbered(0, 0, 0),
+        Call::Make { user: 0, parent: 0, group: 0 },
         Call::Remove { user: 0, group: 0 },
         Call::HandOver { user: 0, group: 0, owner: 0 },
         Call::WriteProcs { user: 0, group: 0, line: line.clone() },
@@ -68,7 +64,6 @@ fn the_checks_are_those_of_the_table() {
         Call::Release { group: 0, pages: 0 },
         Call::Read { group: 0, file, room },
         Call::Membership { process: 0, room },
-        Call::Walk { group: 0, path: vec![] },
     ];
     let model = Model::fresh(0);
     assert_eq!(calls.len(), checks::TABLE.len());

@@ -21,8 +21,8 @@ const DIGESTS: [(&str, u64); 8] = [
     ("test_pids.txt", 0xabe5_3cdd_da2f_764c),
     ("test_memcontrol.txt", 0x4821_3e8c_ed00_ebe3),
     ("test_cpu.txt", 0x9a86_a97a_27e2_447e),
-    ("agreed.txt", 0xe9b2_0766_c8d6_a74b),
-    ("differences.txt", 0xb83c_4136_cdfa_3fe4),
+    ("agreed.txt", 0xa4d6_5786_418a_1aaa),
+    ("differences.txt", 0xb955_18a6_38e3_18cd),
 ];
 
 #[test]

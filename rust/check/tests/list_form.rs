@@ -16,8 +16,7 @@ fn parse(line: &str) -> Option<Entry> {
 fn calls_are_understood() {
     let (file, line) = (b"pids.max".to_vec(), b"7".to_vec());
     let rows = [
-        ("make 1 2 3", Call::numbered(1, 2, 3)),
-        (r#"make 1 2 3 "a b""#, Call::Make { user: 1, parent: 2, group: 3, name: b"a b".to_vec() }),
+        ("make 1 2 3", Call::Make { user: 1, parent: 2, group: 3 }),
         ("remove 1 2", Call::Remove { user: 1, group: 2 }),
         ("handover 1 2 3", Call::HandOver { user: 1, group: 2, owner: 3 }),
         (r#"procs 1 2 "7""#, Call::WriteProcs { user: 1, group: 2, line: line.clone() }),
@@ -36,7 +35,6 @@ fn calls_are_understood() {
         ("read 1 pids.max 5", Call::Read { group: 1, file, room: 5 }),
         ("member 1", Call::Membership { process: 1, room: ROOM }),
         ("member 1 5", Call::Membership { process: 1, room: 5 }),
-        (r#"walk 1 "a/b""#, Call::Walk { group: 1, path: b"a/b".to_vec() }),
     ];
     for (text, call) in rows {
         let entry = parse(&format!("{text} = 3")).unwrap_or_else(|| panic!("{text}"));
@@ -56,8 +54,6 @@ fn replies_are_understood() {
         ("fork 1 2 = 11 group 3", reply(11, Some(3), None)),
         ("charge 1 2 = 12 group 0", reply(12, Some(0), None)),
         ("charge 1 2 = 0", reply(0, None, None)),
-        (r#"walk 1 "a" = 0 group 2"#, reply(0, Some(2), None)),
-        (r#"walk 1 "a" = 2"#, reply(2, None, None)),
         (r#"read 0 cgroup.procs = 0 "1\n""#, reply(0, None, Some(b"1\n"))),
         (r#"member 1 = 0 "\"\\\/\b\f\n\r\t""#, reply(0, None, Some(b"\"\\/\x08\x0c\n\r\t"))),
         (r#"member 1 = 0 "\u0000\u00a0é""#, reply(0, None, Some(b"\0\xa0\xe9"))),
@@ -101,12 +97,8 @@ fn other_lines_are_refused() {
     let rows = [
         ("mkae 0 0 1 = 0", "\"mkae\" is no call"),
         ("make 0 0 = 0", "expected a number, found ="),
-        ("make 0 0 1 2 = 0", "expected a text in quotes, found 2"),
-        (r#"make 0 0 1 "a" "b" = 0"#, r#"expected =, found "b""#),
-        ("make 0 0 1", "expected a text in quotes, found the end of the line"),
-        (r#"walk 0 "a" = 0"#, "expected group, found the end of the line"),
-        (r#"walk 0 "a" = 2 group 1"#, "expected the end of the line, found group"),
-        ("walk 0 a = 2", "expected a text in quotes, found a"),
+        ("make 0 0 1 2 = 0", "expected =, found 2"),
+        ("make 0 0 1", "expected =, found the end of the line"),
         ("make 0 0 1 =", "expected a number, found the end of the line"),
         ("make 0 0 1 = 0 0", "expected the end of the line, found 0"),
         ("make 0 0 1 = EINVAL", "expected a number, found EINVAL"),

@@ -6,7 +6,7 @@
 #[path = "common/shows.rs"]
 mod shows;
 
-use shootspiral_check::Call::{self, *};
+use shootspiral_check::Call::*;
 use shootspiral_check::compare::FILES;
 use shows::shows;
 
@@ -16,7 +16,7 @@ fn pages_stay_when_a_process_moves() {
         "pages move along with a process",
         1024,
         &[
-            Call::numbered(0, 0, 1),
+            Make { user: 0, parent: 0, group: 1 },
             Admit { process: 1, user: 0 },
             Charge { process: 1, pages: 1 },
             WriteProcs { user: 0, group: 1, line: b"1".to_vec() },
@@ -31,7 +31,7 @@ fn a_pids_limit_stops_no_move() {
         "a pids limit stops a move",
         1 << 40,
         &[
-            Call::numbered(0, 0, 1),
+            Make { user: 0, parent: 0, group: 1 },
             WriteSubtreeControl { user: 0, group: 0, line: b"+pids".to_vec() },
             WriteSetting { user: 0, group: 1, file: b"pids.max".to_vec(), line: b"0".to_vec() },
             Admit { process: 1, user: 0 },
@@ -46,9 +46,9 @@ fn a_move_asks_the_common_ancestor() {
         "a move asks source and target, not their common ancestor",
         1024,
         &[
-            Call::numbered(0, 0, 1),
+            Make { user: 0, parent: 0, group: 1 },
             HandOver { user: 0, group: 1, owner: 1 },
-            Call::numbered(0, 0, 2),
+            Make { user: 0, parent: 0, group: 2 },
             HandOver { user: 0, group: 2, owner: 1 },
             Admit { process: 1, user: 1 },
             WriteProcs { user: 0, group: 2, line: b"1".to_vec() },
@@ -64,7 +64,7 @@ fn a_controller_that_leaves_resets_its_settings() {
         1 << 20,
         &[
             WriteSubtreeControl { user: 0, group: 0, line: b"+memory +pids".to_vec() },
-            Call::numbered(0, 0, 1),
+            Make { user: 0, parent: 0, group: 1 },
             WriteSetting { user: 0, group: 1, file: b"memory.max".to_vec(), line: b"0".to_vec() },
             WriteSubtreeControl { user: 0, group: 0, line: b"-memory".to_vec() },
             WriteSubtreeControl { user: 0, group: 0, line: b"+memory".to_vec() },
@@ -78,7 +78,7 @@ fn a_controller_that_stays_resets_nothing() {
         "\"-cpu +cpu\" resets the children's settings",
         16,
         &[
-            Call::numbered(0, 0, 1),
+            Make { user: 0, parent: 0, group: 1 },
             WriteSubtreeControl { user: 0, group: 0, line: b"+cpu +memory".to_vec() },
             WriteSetting { user: 0, group: 1, file: b"cpu.max".to_vec(), line: b"3000".to_vec() },
             WriteSubtreeControl { user: 0, group: 0, line: b"-cpu +cpu".to_vec() },
@@ -92,7 +92,7 @@ fn memory_max_is_rounded_down() {
         "memory.max is rounded up to a page",
         1024,
         &[
-            Call::numbered(0, 0, 1),
+            Make { user: 0, parent: 0, group: 1 },
             WriteSubtreeControl { user: 0, group: 0, line: b"+memory".to_vec() },
             WriteSetting { user: 0, group: 1, file: b"memory.max".to_vec(), line: b"1".to_vec() },
         ],
@@ -119,8 +119,8 @@ fn pages_of_a_removed_group_pass_to_its_parent() {
         1 << 20,
         &[
             WriteSubtreeControl { user: 0, group: 0, line: b"+memory +pids".to_vec() },
-            Call::numbered(0, 0, 2),
-            Call::numbered(0, 2, 1),
+            Make { user: 0, parent: 0, group: 2 },
+            Make { user: 0, parent: 2, group: 1 },
             Admit { process: 1, user: 0 },
             WriteProcs { user: 0, group: 1, line: b"1".to_vec() },
             Charge { process: 1, pages: 1 },
@@ -136,7 +136,7 @@ fn a_refused_charge_leaves_nothing_behind() {
         "a charge refused further up leaves pages behind",
         1024,
         &[
-            Call::numbered(0, 0, 1),
+            Make { user: 0, parent: 0, group: 1 },
             Admit { process: 1, user: 0 },
             WriteProcs { user: 0, group: 1, line: b"1".to_vec() },
             Charge { process: 1, pages: 1_048_576 },
@@ -152,7 +152,7 @@ fn an_owner_sets_no_limit_of_his_own_group() {
         1 << 40,
         &[
             WriteSubtreeControl { user: 0, group: 0, line: b"+cpu +memory".to_vec() },
-            Call::numbered(0, 0, 1),
+            Make { user: 0, parent: 0, group: 1 },
             HandOver { user: 0, group: 1, owner: 1 },
             WriteSetting { user: 1, group: 1, file: b"memory.max".to_vec(), line: b"".to_vec() },
         ],
@@ -192,7 +192,7 @@ fn own_pages_grow_without_a_limit() {
     let calls = [in_the_root, release(0)].concat();
     shows("the root's own pages are kept in 22 bits", 1 << 40, &calls);
     let in_a_group = vec![
-        Call::numbered(0, 0, 1),
+        Make { user: 0, parent: 0, group: 1 },
         Admit { process: 1, user: 0 },
         WriteProcs { user: 0, group: 1, line: b"1".to_vec() },
     ];
@@ -213,7 +213,7 @@ fn lines_of_any_length_are_too_long() {
     shows(fault, 64, &[Admit { process: 1, user: 0 }, procs]);
     let setting = WriteSetting { user: 0, group: 1, file: b"pids.max".to_vec(), line };
     let control = WriteSubtreeControl { user: 0, group: 0, line: b"+pids".to_vec() };
-    shows(fault, 64, &[control, Call::numbered(0, 0, 1), setting]);
+    shows(fault, 64, &[control, Make { user: 0, parent: 0, group: 1 }, setting]);
 }
 
 #[test]
@@ -238,7 +238,7 @@ fn names_of_files_are_whole() {
     let tree = || {
         let line = b"+cpu +io +memory +pids".to_vec();
         let control = WriteSubtreeControl { user: 0, group: 0, line };
-        vec![control, Call::numbered(0, 0, 1)]
+        vec![control, Make { user: 0, parent: 0, group: 1 }]
     };
     for name in &FILES[..11] {
         let shown = String::from_utf8_lossy(name);
@@ -265,7 +265,7 @@ fn names_of_files_are_whole() {
 fn a_fork_and_a_move_keep_the_user() {
     let out = |process: &[u8], user| {
         vec![
-            Call::numbered(0, 0, 1),
+            Make { user: 0, parent: 0, group: 1 },
             HandOver { user: 0, group: 1, owner: 7 },
             WriteProcs { user: 0, group: 1, line: process.to_vec() },
             WriteProcs { user, group: 1, line: process.to_vec() },
@@ -283,7 +283,7 @@ fn all_that_is_at_depth_16_counts() {
     let tree = |control: &str| {
         let line = control.as_bytes().to_vec();
         let mut calls = vec![WriteSubtreeControl { user: 0, group: 0, line }];
-        calls.extend((0..16).map(|parent| Call::numbered(0, parent, parent + 1)));
+        calls.extend((0..16).map(|parent| Make { user: 0, parent, group: parent + 1 }));
         calls.push(Admit { process: 1, user: 0 });
         calls.push(WriteProcs { user: 0, group: 16, line: b"1".to_vec() });
         calls

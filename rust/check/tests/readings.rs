@@ -31,7 +31,7 @@ both! {
 
 fn lines_for_procs<H: Calls>() {
     let mut host = H::fresh(1024);
-    host.make_numbered(0, 0, 1);
+    host.make(0, 0, 1);
     for process in [5, 255, 1024] {
         host.admit(process, 0);
     }
@@ -101,14 +101,14 @@ fn lines_for_control<H: Calls>() {
     ] {
         let mut host = H::fresh(1024);
         host.write_subtree_control(0, 0, b"+memory");
-        host.make_numbered(0, 0, 1);
+        host.make(0, 0, 1);
         assert_eq!(host.write_subtree_control(0, 1, line), number, "{}", line.escape_ascii());
     }
 }
 
 fn long_lines<H: Calls>() {
     let mut host = H::fresh(1024);
-    host.make_numbered(0, 0, 1);
+    host.make(0, 0, 1);
     host.admit(5, 0);
     let digits = |length: usize, end: &[u8]| [&vec![b'0'; length - 1], &b"5"[..], end].concat();
     for (line, number) in [
@@ -128,7 +128,7 @@ fn long_lines<H: Calls>() {
 
 fn settings<H: Calls>() {
     let mut host = H::fresh(1024);
-    host.make_numbered(0, 0, 1);
+    host.make(0, 0, 1);
     host.write_subtree_control(0, 0, b"+cpu +memory +pids");
     for (file, line, number) in [
         ("memory.max", "4095", 0),
@@ -187,7 +187,7 @@ fn memory_max<H: Calls>() {
         ("00004097", 0, "4096\n", 1),
     ] {
         let mut host = H::fresh(1024);
-        host.make_numbered(0, 0, 1);
+        host.make(0, 0, 1);
         host.write_subtree_control(0, 0, b"+memory");
         host.admit(5, 0);
         host.write_procs(0, 1, b"5");
@@ -202,7 +202,7 @@ fn memory_max<H: Calls>() {
 
 fn cpu_max<H: Calls>() {
     let mut host = H::fresh(1024);
-    host.make_numbered(0, 0, 1);
+    host.make(0, 0, 1);
     host.write_subtree_control(0, 0, b"+cpu");
     assert_eq!(shown(&host, 1, "cpu.max"), "max 100000\n");
     for (line, number, after) in [
@@ -231,21 +231,21 @@ fn cpu_max<H: Calls>() {
 fn order_of_checks<H: Calls>() {
     let mut host = H::fresh(1024);
     for group in 1..=16 {
-        host.make_numbered(0, group - 1, group);
+        host.make(0, group - 1, group);
     }
-    host.make_numbered(0, 0, 20);
+    host.make(0, 0, 20);
     host.write_subtree_control(0, 0, b"+memory +pids");
     host.admit(5, 1000);
     host.write_procs(0, 20, b"5");
 
-    assert_eq!(host.make_numbered(0, 30, 256), 22);
-    assert_eq!(host.make_numbered(7, 30, 1), 2);
-    assert_eq!(host.make_numbered(7, 30, 30), 2);
-    assert_eq!(host.make_numbered(7, 16, 1), 17);
-    assert_eq!(host.make_numbered(7, 16, 16), 17);
-    assert_eq!(host.make_numbered(0, 1, 0), 17);
-    assert_eq!(host.make_numbered(7, 16, 17), 13);
-    assert_eq!(host.make_numbered(0, 16, 17), 11);
+    assert_eq!(host.make(0, 30, 256), 22);
+    assert_eq!(host.make(7, 30, 1), 2);
+    assert_eq!(host.make(7, 30, 30), 2);
+    assert_eq!(host.make(7, 16, 1), 17);
+    assert_eq!(host.make(7, 16, 16), 17);
+    assert_eq!(host.make(0, 1, 0), 17);
+    assert_eq!(host.make(7, 16, 17), 13);
+    assert_eq!(host.make(0, 16, 17), 11);
 
     assert_eq!(host.remove(7, 256), 22);
     assert_eq!(host.remove(7, 30), 2);
@@ -312,7 +312,7 @@ fn order_of_checks<H: Calls>() {
 /// A controller that leaves resets its settings in all children; one that only seems to does not.
 fn reset<H: Calls>() {
     let mut host = H::fresh(1024);
-    host.make_numbered(0, 0, 1);
+    host.make(0, 0, 1);
     host.write_subtree_control(0, 0, b"+cpu +memory +pids");
     host.write_setting(0, 1, b"cpu.weight", b"7");
     host.write_setting(0, 1, b"cpu.max", b"2000 3000");
@@ -333,8 +333,8 @@ fn reset<H: Calls>() {
 /// and pages do not move along.
 fn moves_and_limits<H: Calls>() {
     let mut host = H::fresh(1024);
-    host.make_numbered(0, 0, 1);
-    host.make_numbered(0, 0, 2);
+    host.make(0, 0, 1);
+    host.make(0, 0, 2);
     host.write_subtree_control(0, 0, b"+memory +pids");
     for process in [5, 6] {
         host.admit(process, 0);
@@ -358,7 +358,7 @@ fn moves_and_limits<H: Calls>() {
 
 fn empty_replies<H: Calls>() {
     let mut host = H::fresh(1024);
-    host.make_numbered(0, 0, 1);
+    host.make(0, 0, 1);
     for (group, file) in [
         (0, "cgroup.procs"),
         (0, "cgroup.subtree_control"),
@@ -370,7 +370,7 @@ fn empty_replies<H: Calls>() {
         assert_eq!(told, [0], "{file}");
     }
     assert_eq!(shown(&host, 1, "cgroup.events"), "populated 0\n");
-    host.make_numbered(0, 1, 2);
+    host.make(0, 1, 2);
     host.admit(5, 0);
     host.write_procs(0, 2, b"5");
     assert_eq!(shown(&host, 1, "cgroup.events"), "populated 1\n");
@@ -395,21 +395,21 @@ fn machine_sizes<H: Calls>() {
 /// An owner may write his group, not its settings; what user 0 makes is user 0's.
 fn owners<H: Calls>() {
     let mut host = H::fresh(1024);
-    host.make_numbered(0, 0, 1);
+    host.make(0, 0, 1);
     host.write_subtree_control(0, 0, b"+memory");
     host.hand_over(0, 1, 7);
     assert_eq!(host.write_setting(7, 1, b"memory.max", b"max"), 13);
     assert_eq!(host.remove(7, 1), 13);
-    assert_eq!(host.make_numbered(7, 1, 2), 0);
+    assert_eq!(host.make(7, 1, 2), 0);
     assert_eq!(host.write_subtree_control(7, 1, b"+memory"), 0);
     assert_eq!(host.write_setting(7, 2, b"memory.max", b"4096"), 0);
-    assert_eq!(host.make_numbered(0, 1, 3), 0);
-    assert_eq!(host.make_numbered(7, 3, 4), 13);
+    assert_eq!(host.make(0, 1, 3), 0);
+    assert_eq!(host.make(7, 3, 4), 13);
     assert_eq!(host.remove(7, 3), 0);
     assert_eq!(host.remove(7, 2), 0);
     assert_eq!(host.hand_over(0, 1, 7), 0);
     assert_eq!(host.hand_over(0, 1, 0), 0);
-    assert_eq!(host.make_numbered(7, 1, 2), 13);
+    assert_eq!(host.make(7, 1, 2), 13);
 }
 
 /// The membership line of a process, or the number that the reader gets.
@@ -424,8 +424,8 @@ fn line_of<H: Calls>(host: &H, process: u64) -> Result<String, u32> {
 /// A host with groups 1 and 2 under it, and process 5 of user 7 in 2.
 fn two_groups<H: Calls>() -> H {
     let mut host = H::fresh(1024);
-    host.make_numbered(0, 0, 1);
-    host.make_numbered(0, 1, 2);
+    host.make(0, 0, 1);
+    host.make(0, 1, 2);
     host.admit(5, 7);
     assert_eq!(host.write_procs(0, 2, b"5"), 0);
     host
@@ -460,14 +460,14 @@ fn zombies_named<H: Calls>() {
 fn numbers_of_removed_groups<H: Calls>() {
     let mut host: H = two_groups();
     host.exit(5);
-    assert_eq!(host.make_numbered(0, 0, 2), 17);
+    assert_eq!(host.make(0, 0, 2), 17);
     assert_eq!(host.remove(0, 2), 0);
-    assert_eq!(host.make_numbered(0, 256, 2), 22);
-    assert_eq!(host.make_numbered(0, 9, 2), 2);
-    assert_eq!(host.make_numbered(7, 0, 2), 17);
-    assert_eq!(host.make_numbered(0, 1, 2), 17);
-    assert_eq!(host.make_numbered(0, 2, 3), 2);
-    assert_eq!(host.make_numbered(0, 2, 2), 2);
+    assert_eq!(host.make(0, 256, 2), 22);
+    assert_eq!(host.make(0, 9, 2), 2);
+    assert_eq!(host.make(7, 0, 2), 17);
+    assert_eq!(host.make(0, 1, 2), 17);
+    assert_eq!(host.make(0, 2, 3), 2);
+    assert_eq!(host.make(0, 2, 2), 2);
     assert_eq!(host.remove(0, 2), 2);
     assert_eq!(host.hand_over(0, 2, 7), 2);
     assert_eq!(host.write_procs(0, 2, b"5"), 2);
@@ -476,12 +476,12 @@ fn numbers_of_removed_groups<H: Calls>() {
     assert_eq!(host.release(2, 1), 2);
     assert_eq!(host.read(2, b"cgroup.procs", &mut [], &mut [0]), 2);
     // Other numbers are free: what was removed without a zombie, and what never was.
-    assert_eq!(host.make_numbered(0, 1, 3), 0);
+    assert_eq!(host.make(0, 1, 3), 0);
     assert_eq!(host.remove(0, 3), 0);
-    assert_eq!(host.make_numbered(0, 0, 3), 0);
+    assert_eq!(host.make(0, 0, 3), 0);
     assert_eq!(host.collect(5), 0);
-    assert_eq!(host.make_numbered(7, 0, 2), 13);
-    assert_eq!(host.make_numbered(0, 3, 2), 0);
+    assert_eq!(host.make(7, 0, 2), 13);
+    assert_eq!(host.make(0, 3, 2), 0);
 }
 
 /// Both numbers stay taken, and the line stays; so it is with a second zombie on a part of the path.
@@ -494,27 +494,27 @@ fn removed_above_each_other<H: Calls>() {
     assert_eq!((host.remove(0, 2), host.remove(0, 1)), (0, 0));
     assert_eq!(line_of(&host, 5), Ok("0::/1/2 (deleted)\n".into()));
     assert_eq!(line_of(&host, 6), Ok("0::/1 (deleted)\n".into()));
-    assert_eq!((host.make_numbered(0, 0, 1), host.make_numbered(0, 0, 2)), (17, 17));
+    assert_eq!((host.make(0, 0, 1), host.make(0, 0, 2)), (17, 17));
     // The one that is further down needs both groups, the other one.
     let mut other = host.clone();
     assert_eq!(host.collect(6), 0);
     assert_eq!(line_of(&host, 5), Ok("0::/1/2 (deleted)\n".into()));
-    assert_eq!((host.make_numbered(0, 0, 1), host.make_numbered(0, 0, 2)), (17, 17));
+    assert_eq!((host.make(0, 0, 1), host.make(0, 0, 2)), (17, 17));
     assert_eq!(host.collect(5), 0);
-    assert_eq!((host.make_numbered(0, 0, 2), host.make_numbered(0, 2, 1)), (0, 0));
+    assert_eq!((host.make(0, 0, 2), host.make(0, 2, 1)), (0, 0));
     assert_eq!(other.collect(5), 0);
     assert_eq!(line_of(&other, 6), Ok("0::/1 (deleted)\n".into()));
-    assert_eq!((other.make_numbered(0, 0, 1), other.make_numbered(0, 0, 2)), (17, 0));
-    assert_eq!(other.make_numbered(0, 2, 1), 17);
+    assert_eq!((other.make(0, 0, 1), other.make(0, 0, 2)), (17, 0));
+    assert_eq!(other.make(0, 2, 1), 17);
     assert_eq!(other.collect(6), 0);
-    assert_eq!(other.make_numbered(0, 2, 1), 0);
+    assert_eq!(other.make(0, 2, 1), 0);
 }
 
 /// After the path, before the newline, and only when the zombie's own group was removed. A zombie of
 /// the root never has it.
 fn place_of_deleted<H: Calls>() {
     let mut host: H = two_groups();
-    host.make_numbered(0, 1, 3);
+    host.make(0, 1, 3);
     host.admit(6, 0);
     host.admit(7, 0);
     host.write_procs(0, 1, b"6");

@@ -1,11 +1,11 @@
 //! The lists of calls come to places that dice seldom reach: numbers that are not live, figures by
 //! the million, many children, every process, bytes beside the digits, long lines, many devices,
-//! zombies, names and paths.
+//! zombies.
 
 use std::collections::{BTreeMap, BTreeSet};
 
 use shootspiral_check::checks::{
-    Check, TABLE, admit, besides, fork, make, walk, with, write_procs, write_setting,
+    Check, TABLE, admit, besides, fork, make, with, write_procs, write_setting,
 };
 use shootspiral_check::generate::Generator;
 use shootspiral_check::model::{
@@ -22,16 +22,8 @@ const CALLS: usize = 300;
 const OFTEN: u64 = 2;
 const SELDOM: (&Check, &Check) = (write_procs::MAY_NOT_WRITE, write_procs::HAS_SET);
 
-/// The checks of a name alone.
-const BAD: [Option<&Check>; 4] = [
-    Some(make::NAME_EMPTY),
-    Some(make::NAME_LONG),
-    Some(make::NAME_BAD_BYTE),
-    Some(make::NAME_DOTS),
-];
-
 /// Each place, and how often a run must come to it.
-const PLACES: [(&str, u64); 96] = [
+const PLACES: [(&str, u64); 73] = [
     ("make under a group not live", 20),
     ("remove of a group not live", 20),
     ("hand_over of a group not live", 20),
@@ -105,29 +97,6 @@ const PLACES: [(&str, u64); 96] = [
     ("a move of a zombie", 20),
     ("three removed groups on a zombie's path", 100),
     ("a line with \" (deleted)\" that fills its buffer", 10),
-    ("walk of a group not live", 20),
-    ("a bad name alone", 50),
-    ("a sibling's name alone", 50),
-    ("a cousin's name", 100),
-    ("a name of 31 bytes", 50),
-    ("a name but for a byte a sibling's", 20),
-    ("a removed sibling's name again", 20),
-    ("a number again with another name", 50),
-    ("a walk of four names and more", 50),
-    ("a walk of sixteen names", 3),
-    ("a walk from below the root", 50),
-    ("a walk that stops at the first name", 50),
-    ("a walk that stops later", 50),
-    ("a walk that stops after sixteen names", 1),
-    ("an empty path", 20),
-    ("an empty name in a path", 20),
-    ("a bad name behind one not found", 20),
-    ("a path of 1023 bytes", 3),
-    ("a path of 1024 bytes", 3),
-    ("a path of 1025 bytes", 3),
-    ("a path of more than 65536 bytes", 2),
-    ("the path of a removed group", 10),
-    ("the path of a removed group, there again", 5),
 ];
 
 #[test]
@@ -137,7 +106,6 @@ fn every_place_is_come_to() {
         let mut generator = Generator::new(seed);
         let mut model = Model::fresh(generator.machine());
         let mut parents = BTreeMap::new();
-        let mut named = BTreeMap::new();
         let mut freed = BTreeSet::new();
         for _ in 0..generator.length(CALLS) {
             let call = generator.next(&model);
@@ -151,9 +119,6 @@ fn every_place_is_come_to() {
             {
                 *counts.entry("a group made again under another parent".into()).or_default() += 1;
             }
-            for place in names_again(&mut named, &call, answer.number, &before) {
-                *counts.entry(place.into()).or_default() += 1;
-            }
             for place in again(&mut freed, &before, &call, answer.number, &model) {
                 *counts.entry(place.into()).or_default() += 1;
             }
@@ -163,30 +128,6 @@ fn every_place_is_come_to() {
     let rare = PLACES.iter().filter(|(place, often)| count(place) < *often);
     let rare: Vec<_> = rare.map(|(place, _)| format!("{place}: {}", count(place))).collect();
     assert!(rare.is_empty(), "{rare:#?}");
-}
-
-/// The places that a make comes to by what the numbers were named before it: each keeps the parent and
-/// the name that it had last.
-fn names_again(
-    named: &mut BTreeMap<u64, (u64, Vec<u8>)>,
-    call: &Call,
-    number: u32,
-    before: &Model,
-) -> Vec<&'static str> {
-    let Call::Make { parent, group, name, .. } = call else { return vec![] };
-    if number != 0 {
-        return vec![];
-    }
-    let is_removed = |(number, had): (&u64, &(u64, Vec<u8>))| {
-        before.group(*number).is_none() && (had.0, &had.1) == (*parent, name)
-    };
-    let is_again = named.iter().any(is_removed);
-    let former = named.insert(*group, (*parent, name.clone()));
-    let rows = [
-        (is_again, "a removed sibling's name again"),
-        (former.is_some_and(|(_, old)| old != *name), "a number again with another name"),
-    ];
-    rows.into_iter().filter(|(holds, _)| *holds).map(|(_, place)| place).collect()
 }
 
 /// Numbers that a collection has freed: of groups, and of processes.
@@ -297,19 +238,7 @@ fn places(model: &Model, call: &Call, number: u32, told: &[u64]) -> Vec<String> 
     let own = |group: u64| model.group(group).map_or(0, |kept| kept.own_pages);
     let refused_by = model.held(call).first().copied();
     match call {
-        Call::Make { parent, group, name, .. } => {
-            note(model.held(call).len() == 1 && BAD.contains(&refused_by), "a bad name alone");
-            note(model.held(call) == [make::NAME_TAKEN], "a sibling's name alone");
-            note(number == 0 && name.len() == 31, "a name of 31 bytes");
-            let is_there = model.live_groups().any(|group| model.name(group) == name);
-            note(number == 0 && is_there, "a cousin's name");
-            let is_near = |sibling: u64| {
-                let (one, other) = (model.name(sibling), name);
-                let apart = one.iter().zip(other).filter(|(one, other)| one != other).count();
-                one.len() == other.len() && one.len() > 1 && apart == 1
-            };
-            let is_near = model.children(*parent).any(is_near);
-            note(number == 0 && is_near, "a name but for a byte a sibling's");
+        Call::Make { parent, group, .. } => {
             note(number == 11, "a group not made under depth 16");
             note(number == 0 && model.depth(*parent) == 15, "a group made under depth 15");
             let is_taken = refused_by == Some(make::NEW_ON_ZOMBIES_PATH);
@@ -409,33 +338,6 @@ fn places(model: &Model, call: &Call, number: u32, told: &[u64]) -> Vec<String> 
             note(all && filled, "every process in a buffer that they fill");
             note(all && short, "every process in a buffer one byte short");
         }
-        Call::Walk { group, path } => {
-            let names = path.split(|&byte| byte == b'/').count();
-            let is_lost = refused_by == Some(walk::NOT_FOUND);
-            let is_bad = refused_by.is_some_and(|check| check.number() == 22) && *group <= 255;
-            let gone = model.zombies().filter(|&zombie| is_deleted(model, zombie));
-            let is_gone = gone.map(|n| model.names_of(&model.path(n))).any(|gone| gone == *path);
-            note(number == 0 && path.is_empty(), "an empty path");
-            note(number == 0 && told[1] >= 4, "a walk of four names and more");
-            note(number == 0 && told[1] == 16, "a walk of sixteen names");
-            note(number == 0 && *group != 0 && !path.is_empty(), "a walk from below the root");
-            note(is_lost && told[1] == 0, "a walk that stops at the first name");
-            note(is_lost && told[1] > 0, "a walk that stops later");
-            note(is_lost && told[1] == 16, "a walk that stops after sixteen names");
-            note(refused_by == Some(walk::EMPTY_NAME), "an empty name in a path");
-            let passed = model.follow(*group, path).1 as usize;
-            let next = path.split(|&byte| byte == b'/').nth(passed).map(<[u8]>::to_vec);
-            let next = next.map(|path| Call::Walk { group: 0, path });
-            let is_good = next.is_some_and(|next| model.held(&next) == [walk::NOT_FOUND]);
-            note(is_bad && is_good && names > passed + 1, "a bad name behind one not found");
-            for length in [1023, 1024, 1025] {
-                note(path.len() == length, &format!("a path of {length} bytes"));
-            }
-            note(path.len() > 65_536, "a path of more than 65536 bytes");
-            note(*group == 0 && is_lost && is_gone, "the path of a removed group");
-            let is_again = *group == 0 && number == 0 && is_gone;
-            note(is_again, "the path of a removed group, there again");
-        }
         Call::FirstBadWord { line } if line.len() > 2_000 => {
             let after = line.len() as u64 - told[0] - told[1];
             let place = match (told[0], told[1], after) {
@@ -497,8 +399,7 @@ fn absent(model: &Model, call: &Call) -> Vec<String> {
         | Call::WriteSubtreeControl { group, .. }
         | Call::WriteSetting { group, .. }
         | Call::Release { group, .. }
-        | Call::Read { group, .. }
-        | Call::Walk { group, .. } => (Some(*group), None, "of"),
+        | Call::Read { group, .. } => (Some(*group), None, "of"),
         Call::Fork { parent, .. } => (None, Some(*parent), "of"),
         Call::Exit { process }
         | Call::Collect { process }

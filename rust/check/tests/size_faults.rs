@@ -8,7 +8,7 @@ use shootspiral_check::Call::{self, *};
 use shows::shows;
 
 fn make(parent: u64, group: u64) -> Call {
-    Call::numbered(0, parent, group)
+    Make { user: 0, parent, group }
 }
 
 fn admit(process: u64) -> Call {
@@ -129,7 +129,7 @@ fn depth_goes_to_16() {
     let chained: Vec<Call> = (0..9).map(|group| make(group, group + 1)).collect();
     shows("nothing is made under depth 8", 64, &chained);
     shows("a group is made under depth 16", 64, &deep(&[make(16, 17)]));
-    shows("the membership line of depth 16 loses its last name", 64, &deep(&[]));
+    shows("the membership line of depth 16 loses its last number", 64, &deep(&[]));
 }
 
 #[test]
@@ -218,7 +218,7 @@ fn paths_go_to_their_ends() {
     let line =
         |groups: &[u64], room| [chain(groups), vec![Membership { process: 1, room }]].concat();
     let (low, high): (Vec<u64>, Vec<u64>) = ((1..=9).collect(), (240..=255).collect());
-    shows("a membership line shows the last two bytes of a name", 64, &line(&[100], 64));
+    shows("a membership line shows two digits of a number", 64, &line(&[100], 64));
     shows("a membership line shows the eight lowest groups", 64, &line(&low, 64));
     shows("a membership line shows the eight highest groups", 64, &line(&low, 64));
     shows("a membership line ends after 28 bytes", 64, &line(&high, 68));

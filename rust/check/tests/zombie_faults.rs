@@ -8,7 +8,7 @@ use shootspiral_check::Call::{self, *};
 use shows::shows;
 
 fn make(parent: u64, group: u64) -> Call {
-    Call::numbered(0, parent, group)
+    Make { user: 0, parent, group }
 }
 
 fn remove(group: u64) -> Call {
@@ -171,7 +171,7 @@ fn lines_of_zombies_stand_still() {
         ("\" (deleted)\" stands after the newline", removed(1, 1, &[])),
         ("a zombie's path is cut at the removed group", removed(2, 1, &[])),
         ("a zombie's path is cut at the removed group", removed(2, 2, &[])),
-        ("a removed group's path is its name alone", removed(2, 1, &[])),
+        ("a removed group's path is its number alone", removed(2, 1, &[])),
         ("a zombie has no membership line", ended(1, &[])),
         ("a zombie's line is gone with its group", removed(1, 1, &[])),
         ("a zombie's line is that of the root", ended(1, &[])),
@@ -191,7 +191,7 @@ fn lines_of_zombies_stand_still() {
 fn taken_numbers_come_at_their_place() {
     let full = [control(0, "+pids"), admit(2), enter(1, 2)];
     let limit = WriteSetting { user: 0, group: 1, file: b"pids.max".to_vec(), line: b"1".to_vec() };
-    let user = |group| Call::numbered(7, 0, group);
+    let user = |group| Make { user: 7, parent: 0, group };
     let mut deep: Vec<Call> = (2..=17).map(|n| make(if n == 2 { 0 } else { n - 1 }, n)).collect();
     deep.push(make(17, 1));
     all_show(&[

@@ -24,7 +24,7 @@ both! {
     three_levels
     beside
     line_lengths
-    deepest_path
+    longest_path
     named_after_removal
     deep_zombie
     removed_in_turn
@@ -280,14 +280,14 @@ fn line_lengths<H: Calls>() {
     evening.unknown(5, 3);
 }
 
-/// The membership line of a zombie that ended at the end of `descent`.
+/// The membership line of a zombie that ended at the end of `descent`, the longest that there is.
 const REMOVED_LINE: &str =
     "0::/240/241/242/243/244/245/246/247/248/249/250/251/252/253/254/255 (deleted)\n";
 
-/// 17 before 11, and 2 before 11 where the parent was removed. Its line fits 78 bytes,
+/// 17 before 11, and 2 before 11 where the parent was removed. The longest line fits its 78 bytes,
 /// and not 77: all sixteen groups of the longest chain are removed, from the bottom, and the
 /// highest is taken as the lowest is.
-fn deepest_path<H: Calls>() {
+fn longest_path<H: Calls>() {
     let mut evening = Evening::<H>::of(0);
     evening.succeed(descent());
     evening.succeed([make(0, 254, 1), admit(5, 0), procs(0, 255, "5"), exit(5), remove(0, 255)]);

@@ -4,7 +4,7 @@
 use std::fmt;
 
 use crate::number::{GroupId, LONGEST_MEMBERSHIP, LONGEST_REPLY, ProcessId, User};
-use crate::refusal::{Denial, Lost, Refusal};
+use crate::refusal::{Denial, Refusal};
 use crate::sys;
 
 /// What `told` says where no cgroup is named.
@@ -18,7 +18,7 @@ const NO_GROUP: u64 = u64::MAX;
 /// # use shootspiral::{GroupId, Host, Refusal, User};
 /// let mut host = Host::fresh(1024);
 /// let before = host.clone();
-/// host.make(User::ROOT, GroupId::ROOT, GroupId(1), "tape-114")?;
+/// host.make(User::ROOT, GroupId::ROOT, GroupId(1))?;
 /// assert!(host.read(GroupId(1), "cgroup.procs").is_ok());
 /// assert_eq!(before.read(GroupId(1), "cgroup.procs"), Err(Refusal::Enoent));
 /// # Ok::<(), Refusal>(())
@@ -45,39 +45,26 @@ impl Host {
         Host { tree }
     }
 
-    /// Makes `group` under `parent`, with this name; `user` owns it. A name is 1 to 31 bytes of
-    /// printable ASCII without space and "/", and not "." or "..".
+    /// Makes `group` under `parent`; `user` owns it.
     ///
-    /// EINVAL: a number above 255, or a bad name. ENOENT: `parent` is not live. EEXIST: `group` is
-    /// live, or was removed and a zombie's path runs through it; or a live child of `parent` has the
-    /// name. EACCES: `user` may not write `parent`. EAGAIN: `parent` is at depth 16.
+    /// EINVAL: a number above 255. ENOENT: `parent` is not live. EEXIST: `group` is live, or was
+    /// removed and a zombie's path runs through it. EACCES: `user` may not write `parent`. EAGAIN:
+    /// `parent` is at depth 16.
     ///
     /// ```
     /// # use shootspiral::{GroupId, Host, Refusal, User};
     /// let mut host = Host::fresh(1024);
-    /// let root = GroupId::ROOT;
-    /// assert_eq!(host.make(User::ROOT, root, GroupId(1), "tape-114"), Ok(()));
-    /// assert_eq!(host.make(User::ROOT, root, GroupId(1), "tape-115"), Err(Refusal::Eexist));
-    /// assert_eq!(host.make(User::ROOT, root, GroupId(2), "tape-114"), Err(Refusal::Eexist));
-    /// assert_eq!(host.make(User::ROOT, root, GroupId(2), "tape 115"), Err(Refusal::Einval));
-    /// assert_eq!(host.make(User(1000), GroupId(1), GroupId(2), "filters"), Err(Refusal::Eacces));
+    /// assert_eq!(host.make(User::ROOT, GroupId::ROOT, GroupId(1)), Ok(()));
+    /// assert_eq!(host.make(User::ROOT, GroupId::ROOT, GroupId(1)), Err(Refusal::Eexist));
+    /// assert_eq!(host.make(User(1000), GroupId(1), GroupId(2)), Err(Refusal::Eacces));
     /// ```
-    pub fn make(
-        &mut self,
-        user: User,
-        parent: GroupId,
-        group: GroupId,
-        name: impl AsRef<[u8]>,
-    ) -> Result<(), Refusal> {
-        let name = name.as_ref();
-        // SAFETY: `tree` as the field says; the name is lent whole.
-        settle(unsafe {
-            sys::ss_make(self.tree.as_mut_ptr(), user, parent, group, name.as_ptr(), name.len())
-        })
+    pub fn make(&mut self, user: User, parent: GroupId, group: GroupId) -> Result<(), Refusal> {
+        // SAFETY: `tree` as the field says.
+        settle(unsafe { sys::ss_make(self.tree.as_mut_ptr(), user, parent, group) })
     }
 
-    /// Removes `group`; its own pages pass to its parent, and its name can be given again. Zombies
-    /// stop no removal; while the path of one runs through `group`, no cgroup of this number is made.
+    /// Removes `group`; its own pages pass to its parent. Zombies stop no removal; while the path of
+    /// one runs through `group`, no cgroup of this number is made.
     ///
     /// EINVAL: above 255. ENOENT: not live. EACCES: `user` may not write its parent, or it is the
     /// root and `user` is not user 0. EBUSY: the root, or it has a live child or process.
@@ -85,7 +72,7 @@ impl Host {
     /// ```
     /// # use shootspiral::{GroupId, Host, Refusal, User};
     /// let mut host = Host::fresh(1024);
-    /// host.make(User::ROOT, GroupId::ROOT, GroupId(1), "tape-114")?;
+    /// host.make(User::ROOT, GroupId::ROOT, GroupId(1))?;
     /// assert_eq!(host.remove(User::ROOT, GroupId::ROOT), Err(Refusal::Ebusy));
     /// assert_eq!(host.remove(User::ROOT, GroupId(1)), Ok(()));
     /// # Ok::<(), Refusal>(())
@@ -102,9 +89,9 @@ impl Host {
     /// ```
     /// # use shootspiral::{GroupId, Host, Refusal, User};
     /// let mut host = Host::fresh(1024);
-    /// host.make(User::ROOT, GroupId::ROOT, GroupId(1), "tape-114")?;
+    /// host.make(User::ROOT, GroupId::ROOT, GroupId(1))?;
     /// host.hand_over(User::ROOT, GroupId(1), User(1000))?;
-    /// assert_eq!(host.make(User(1000), GroupId(1), GroupId(2), "filters"), Ok(()));
+    /// assert_eq!(host.make(User(1000), GroupId(1), GroupId(2)), Ok(()));
     /// # Ok::<(), Refusal>(())
     /// ```
     pub fn hand_over(&mut self, user: User, group: GroupId, owner: User) -> Result<(), Refusal> {
@@ -122,7 +109,7 @@ impl Host {
     /// ```
     /// # use shootspiral::{GroupId, Host, ProcessId, Refusal, User};
     /// let mut host = Host::fresh(1024);
-    /// host.make(User::ROOT, GroupId::ROOT, GroupId(1), "tape-114")?;
+    /// host.make(User::ROOT, GroupId::ROOT, GroupId(1))?;
     /// host.admit(ProcessId(5), User(1000))?;
     /// assert_eq!(host.write_procs(User::ROOT, GroupId(1), "five"), Err(Refusal::Einval));
     /// assert_eq!(host.write_procs(User::ROOT, GroupId(1), "5\n"), Ok(()));
@@ -183,7 +170,7 @@ impl Host {
     /// ```
     /// # use shootspiral::{GroupId, Host, Refusal, User, file};
     /// let mut host = Host::fresh(1024);
-    /// host.make(User::ROOT, GroupId::ROOT, GroupId(1), "tape-114")?;
+    /// host.make(User::ROOT, GroupId::ROOT, GroupId(1))?;
     /// host.write_subtree_control(User::ROOT, GroupId::ROOT, "+cpu")?;
     /// host.write_setting(User::ROOT, GroupId(1), file::CPU_MAX, "50000")?;
     /// assert_eq!(host.read(GroupId(1), file::CPU_MAX)?, b"50000 100000\n");
@@ -195,7 +182,7 @@ impl Host {
     /// ```
     /// # use shootspiral::{GroupId, Host, Refusal, User, file};
     /// let mut host = Host::fresh(1024);
-    /// host.make(User::ROOT, GroupId::ROOT, GroupId(1), "tape-114")?;
+    /// host.make(User::ROOT, GroupId::ROOT, GroupId(1))?;
     /// host.write_subtree_control(User::ROOT, GroupId::ROOT, "+memory")?;
     /// host.write_setting(User::ROOT, GroupId(1), file::MEMORY_MAX, "4097")?;
     /// assert_eq!(host.read(GroupId(1), file::MEMORY_MAX)?, b"4096\n");
@@ -210,7 +197,7 @@ impl Host {
     /// ```
     /// # use shootspiral::{GroupId, Host, Refusal, User, file};
     /// let mut host = Host::fresh(1024);
-    /// host.make(User::ROOT, GroupId::ROOT, GroupId(1), "tape-114")?;
+    /// host.make(User::ROOT, GroupId::ROOT, GroupId(1))?;
     /// host.write_subtree_control(User::ROOT, GroupId::ROOT, "+io")?;
     /// host.write_setting(User::ROOT, GroupId(1), file::IO_MAX, "8:16 wiops=120 rbps=2097152")?;
     /// let limited = b"8:16 rbps=2097152 wbps=max riops=max wiops=120\n";
@@ -268,7 +255,7 @@ impl Host {
     /// ```
     /// # use shootspiral::{GroupId, Host, ProcessId, Refusal, User, file};
     /// let mut host = Host::fresh(1024);
-    /// host.make(User::ROOT, GroupId::ROOT, GroupId(1), "tape-114")?;
+    /// host.make(User::ROOT, GroupId::ROOT, GroupId(1))?;
     /// host.write_subtree_control(User::ROOT, GroupId::ROOT, "+pids")?;
     /// host.write_setting(User::ROOT, GroupId(1), file::PIDS_MAX, "2")?;
     /// host.admit(ProcessId(5), User(1000))?;
@@ -315,16 +302,15 @@ impl Host {
     /// ```
     /// # use shootspiral::{GroupId, Host, ProcessId, Refusal, User};
     /// let mut host = Host::fresh(1024);
-    /// host.make(User::ROOT, GroupId::ROOT, GroupId(1), "tape-114")?;
+    /// host.make(User::ROOT, GroupId::ROOT, GroupId(1))?;
     /// host.admit(ProcessId(5), User(1000))?;
     /// host.write_procs(User::ROOT, GroupId(1), "5")?;
     /// assert_eq!(host.collect(ProcessId(5)), Err(Refusal::Esrch));
     /// host.exit(ProcessId(5))?;
     /// host.remove(User::ROOT, GroupId(1))?;
-    /// let again = |host: &mut Host| host.make(User::ROOT, GroupId::ROOT, GroupId(1), "tape-114");
-    /// assert_eq!(again(&mut host), Err(Refusal::Eexist));
+    /// assert_eq!(host.make(User::ROOT, GroupId::ROOT, GroupId(1)), Err(Refusal::Eexist));
     /// assert_eq!(host.collect(ProcessId(5)), Ok(()));
-    /// assert_eq!(again(&mut host), Ok(()));
+    /// assert_eq!(host.make(User::ROOT, GroupId::ROOT, GroupId(1)), Ok(()));
     /// assert_eq!(host.admit(ProcessId(5), User(1000)), Ok(()));
     /// # Ok::<(), Refusal>(())
     /// ```
@@ -429,24 +415,23 @@ impl Host {
         settle(number).map(|()| length as usize)
     }
 
-    /// The membership line of a process: "0::" and the path of its cgroup, a "/" before each name. A
-    /// zombie keeps the path that it had when it ended, with " (deleted)" behind it once its own cgroup
-    /// was removed.
+    /// The membership line of a process: "0::" and the path of its cgroup. A zombie keeps the path
+    /// that it had when it ended, with " (deleted)" behind it once its own cgroup was removed.
     ///
     /// ESRCH: neither live nor a zombie.
     ///
     /// ```
     /// # use shootspiral::{GroupId, Host, ProcessId, Refusal, User};
     /// let mut host = Host::fresh(1024);
-    /// host.make(User::ROOT, GroupId::ROOT, GroupId(3), "tape-3")?;
-    /// host.make(User::ROOT, GroupId(3), GroupId(7), "b")?;
-    /// host.admit(ProcessId(11), User(1000))?;
-    /// assert_eq!(host.membership(ProcessId(11))?, b"0::/\n");
-    /// host.write_procs(User::ROOT, GroupId(7), "11")?;
-    /// assert_eq!(host.membership(ProcessId(11))?, b"0::/tape-3/b\n");
-    /// host.exit(ProcessId(11))?;
+    /// host.make(User::ROOT, GroupId::ROOT, GroupId(3))?;
+    /// host.make(User::ROOT, GroupId(3), GroupId(7))?;
+    /// host.admit(ProcessId(5), User(1000))?;
+    /// assert_eq!(host.membership(ProcessId(5))?, b"0::/\n");
+    /// host.write_procs(User::ROOT, GroupId(7), "5")?;
+    /// assert_eq!(host.membership(ProcessId(5))?, b"0::/3/7\n");
+    /// host.exit(ProcessId(5))?;
     /// host.remove(User::ROOT, GroupId(7))?;
-    /// assert_eq!(host.membership(ProcessId(11))?, b"0::/tape-3/b (deleted)\n");
+    /// assert_eq!(host.membership(ProcessId(5))?, b"0::/3/7 (deleted)\n");
     /// # Ok::<(), Refusal>(())
     /// ```
     pub fn membership(&self, process: ProcessId) -> Result<Vec<u8>, Refusal> {
@@ -470,41 +455,6 @@ impl Host {
             )
         };
         settle(number).map(|()| length as usize)
-    }
-
-    /// Walks a path down from `group`: names parted by one "/", none at either end; the empty path
-    /// stays at `group`. Answers the cgroup reached and the number of names.
-    ///
-    /// EINVAL: above 255. ENOENT: not live. EINVAL: the path is over 1,024 bytes, or has a bad name
-    /// anywhere. ENOENT: a name is not found; how many were passed before it is told.
-    ///
-    /// ```
-    /// # use shootspiral::{GroupId, Host, Lost, Refusal, User};
-    /// let mut host = Host::fresh(1024);
-    /// let (root, tape, filters) = (GroupId::ROOT, GroupId(7), GroupId(3));
-    /// host.make(User::ROOT, root, tape, "tape-114")?;
-    /// host.make(User::ROOT, tape, filters, "filters")?;
-    /// assert_eq!(host.walk(root, "tape-114/filters"), Ok((filters, 2)));
-    /// assert_eq!(host.walk(tape, "filters"), Ok((filters, 1)));
-    /// assert_eq!(host.walk(tape, ""), Ok((tape, 0)));
-    /// let not_found = Lost { refusal: Refusal::Enoent, passed: 1 };
-    /// assert_eq!(host.walk(root, "tape-114/hiss"), Err(not_found));
-    /// let malformed = Lost { refusal: Refusal::Einval, passed: 0 };
-    /// assert_eq!(host.walk(root, "tape-114/"), Err(malformed));
-    /// # Ok::<(), Refusal>(())
-    /// ```
-    pub fn walk(&self, group: GroupId, path: impl AsRef<[u8]>) -> Result<(GroupId, u64), Lost> {
-        let path = path.as_ref();
-        let mut told = [NO_GROUP, 0];
-        // SAFETY: `tree` as the field says; the path is lent whole; `told` has two words.
-        let number = unsafe {
-            sys::ss_walk(self.tree.as_ptr(), group, path.as_ptr(), path.len(), told.as_mut_ptr())
-        };
-        let [reached, passed] = told;
-        match number {
-            0 => Ok((GroupId(reached), passed)),
-            number => Err(Lost { refusal: refusal(number), passed }),
-        }
     }
 }
 

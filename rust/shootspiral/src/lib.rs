@@ -5,14 +5,14 @@
 //! the operating system for nothing.
 //!
 //! A [`Host`] owns its tree. Cgroups, processes and users are numbers of different types, so that
-//! they cannot change places; a cgroup also has a name, for its path:
+//! they cannot change places:
 //!
 //! ```
 //! use shootspiral::{GroupId, Host, ProcessId, Refusal, User, file};
 //!
 //! let mut host = Host::fresh(1024);
 //! let (tape, player) = (GroupId(7), ProcessId(5));
-//! host.make(User::ROOT, GroupId::ROOT, tape, "tape-114")?;
+//! host.make(User::ROOT, GroupId::ROOT, tape)?;
 //! host.write_subtree_control(User::ROOT, GroupId::ROOT, "+memory")?;
 //! host.write_setting(User::ROOT, tape, file::MEMORY_MAX, "32768")?;
 //!
@@ -24,9 +24,6 @@
 //! let denial = host.charge(player, 1).unwrap_err();
 //! assert_eq!(denial.refusal, Refusal::Enomem);
 //! assert_eq!((denial.group, denial.consulted), (Some(tape), 1));
-//!
-//! assert_eq!(host.membership(player)?, b"0::/tape-114\n");
-//! assert_eq!(host.walk(GroupId::ROOT, "tape-114"), Ok((tape, 1)));
 //! # Ok::<(), Refusal>(())
 //! ```
 //!
@@ -44,4 +41,4 @@ pub mod sys;
 
 pub use host::{Host, first_bad_word};
 pub use number::{GroupId, ProcessId, User};
-pub use refusal::{Denial, Lost, Refusal};
+pub use refusal::{Denial, Refusal};

@@ -9,8 +9,7 @@ use crate::number::GroupId;
 #[derive(Clone, Copy, Debug, PartialEq, Eq, PartialOrd, Ord, Hash)]
 #[repr(u32)]
 pub enum Refusal {
-    /// The cgroup is not live or none has that name, the file is absent there, or a controller is not
-    /// available.
+    /// The cgroup is not live, the file is absent there, or a controller is not available.
     Enoent = 2,
     /// There is no such live process; to a collection, no such zombie.
     Esrch = 3,
@@ -22,8 +21,7 @@ pub enum Refusal {
     Eacces = 13,
     /// The cgroup is in use, or the inner-process rule.
     Ebusy = 16,
-    /// The number is taken: live, a zombie's, or that of a removed cgroup on a zombie's path. Or the
-    /// name is: a live sibling's.
+    /// The number is taken: live, a zombie's, or that of a removed cgroup on a zombie's path.
     Eexist = 17,
     /// A number out of range, or malformed text.
     Einval = 22,
@@ -87,13 +85,13 @@ impl Refusal {
 
     fn meaning(self) -> &'static str {
         match self {
-            Refusal::Enoent => "group not live or not found, file absent, controller not available",
+            Refusal::Enoent => "group not live, file absent there, controller not available",
             Refusal::Esrch => "no such live process, or no such zombie",
             Refusal::Eagain => "depth limit, or a pids limit stops a fork",
             Refusal::Enomem => "a memory limit or the machine stops a charge",
             Refusal::Eacces => "the user may not",
             Refusal::Ebusy => "group in use, or the inner-process rule",
-            Refusal::Eexist => "number or name taken",
+            Refusal::Eexist => "number taken",
             Refusal::Einval => "number out of range or text malformed",
             Refusal::Enospc => "reply buffer shorter than the reply, or a fifth device in io.max",
             Refusal::Erange => "figure outside its range, or too many pages released",
@@ -136,31 +134,5 @@ impl Error for Denial {}
 impl From<Denial> for Refusal {
     fn from(denial: Denial) -> Refusal {
         denial.refusal
-    }
-}
-
-/// A walk that was refused, or that did not find a name.
-#[derive(Clone, Copy, Debug, PartialEq, Eq, Hash)]
-pub struct Lost {
-    pub refusal: Refusal,
-    /// The names passed before the one not found; 0 where something else was the cause.
-    pub passed: u64,
-}
-
-impl fmt::Display for Lost {
-    fn fmt(&self, f: &mut fmt::Formatter<'_>) -> fmt::Result {
-        match self.passed {
-            0 => self.refusal.fmt(f),
-            passed => write!(f, "{}, {passed} passed", self.refusal),
-        }
-    }
-}
-
-impl Error for Lost {}
-
-/// For callers to whom the number is enough.
-impl From<Lost> for Refusal {
-    fn from(lost: Lost) -> Refusal {
-        lost.refusal
     }
 }

@@ -15,14 +15,7 @@ unsafe extern "C" {
     /// The number of words of a tree.
     pub safe fn ss_tree_words() -> u64;
 
-    pub fn ss_make(
-        tree: *mut u64,
-        user: User,
-        parent: GroupId,
-        group: GroupId,
-        name: *const u8,
-        length: usize,
-    ) -> u32;
+    pub fn ss_make(tree: *mut u64, user: User, parent: GroupId, group: GroupId) -> u32;
 
     pub fn ss_remove(tree: *mut u64, user: User, group: GroupId) -> u32;
 
@@ -87,15 +80,6 @@ unsafe extern "C" {
         process: ProcessId,
         reply: *mut u8,
         room: usize,
-        told: *mut u64,
-    ) -> u32;
-
-    /// `told` has two words: the cgroup reached, 2^64 - 1 for none, and how many names were passed.
-    pub fn ss_walk(
-        tree: *const u64,
-        group: GroupId,
-        path: *const u8,
-        length: usize,
         told: *mut u64,
     ) -> u32;
 

@@ -89,7 +89,7 @@ fn number(name: &str, kind: &str, body: &str) -> (&'static str, &'static str) {
 /// own. The words of an array are counted in C alone.
 fn parameters(name: &str, kind: &str, body: &str) -> Vec<(String, String)> {
     let length = match name {
-        "line" | "name" | "path" => "length",
+        "line" => "length",
         "file" => "file_length",
         "reply" => "room",
         other => other,
@@ -220,7 +220,7 @@ fn told(function: &Function) -> Option<String> {
         let both = "(now (told .exit)) (now (reply .exit))";
         format!("ensures {{ λ r. ⌜ Told {} {both} ⌝ }}", reply("replyOf"))
     } else if function.type_of("tree").is_some() {
-        format!("ensures {{ λ _. ⌜ now (told .exit) ≡ groupWords {} ⌝ }}", reply("reply"))
+        format!("ensures {{ λ _. ⌜ now (told .exit) ≡ roomWords {} ⌝ }}", reply("reply"))
     } else {
         let part = "partWords (firstBadWord (now (line .entry)))";
         format!("ensures {{ λ _. ⌜ now (told .exit) ≡ {part} ⌝ }}")

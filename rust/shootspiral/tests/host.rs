@@ -3,11 +3,9 @@
 
 use shootspiral::number::{
     LAST_GROUP, LAST_PROCESS, LONGEST_IO_MAX, LONGEST_MEMBERSHIP, LONGEST_REPLY, MAX_DEPTH,
-    MAX_DEVICES, MAX_NAME, MAX_PATH, TREE_WORDS,
+    MAX_DEVICES, TREE_WORDS,
 };
-use shootspiral::{
-    Denial, GroupId, Host, Lost, ProcessId, Refusal, User, file, first_bad_word, sys,
-};
+use shootspiral::{Denial, GroupId, Host, ProcessId, Refusal, User, file, first_bad_word, sys};
 
 #[test]
 fn a_tree_has_the_words_that_the_header_says() {
@@ -26,8 +24,6 @@ fn the_header_says_the_same() {
         ("SS_MAX_PAGES", shootspiral::number::MAX_PAGES),
         ("SS_MAX_MACHINE_PAGES", shootspiral::number::MAX_MACHINE_PAGES),
         ("SS_MAX_LINE", shootspiral::number::MAX_LINE as u64),
-        ("SS_MAX_NAME", MAX_NAME as u64),
-        ("SS_MAX_PATH", MAX_PATH as u64),
         ("SS_LONGEST_REPLY", LONGEST_REPLY as u64),
         ("SS_LONGEST_MEMBERSHIP", LONGEST_MEMBERSHIP as u64),
         ("SS_LONGEST_CHAIN", MAX_DEPTH + 1),
@@ -49,27 +45,17 @@ fn the_header_says_the_same() {
     }
 }
 
-/// The name that a cgroup of the full tree has: as long as can be.
-fn long_name(group: u64) -> String {
-    let name = format!("tape-{group:026}");
-    assert_eq!(name.len(), MAX_NAME);
-    name
-}
-
 /// 256 cgroups, of which the last sixteen stand one below the other, and 1,024 processes in the lowest.
 fn full_tree() -> Host {
     let mut host = Host::fresh(1024);
-    let make = |host: &mut Host, parent, group| {
-        host.make(User::ROOT, GroupId(parent), GroupId(group), long_name(group))
-    };
-    make(&mut host, 0, 240).unwrap();
+    host.make(User::ROOT, GroupId::ROOT, GroupId(240)).unwrap();
     for group in 241..=255 {
-        make(&mut host, group - 1, group).unwrap();
+        host.make(User::ROOT, GroupId(group - 1), GroupId(group)).unwrap();
     }
-    assert_eq!(make(&mut host, 255, 1), Err(Refusal::Eagain));
-    assert_eq!(make(&mut host, 254, 1), Ok(()));
+    assert_eq!(host.make(User::ROOT, GroupId(255), GroupId(1)), Err(Refusal::Eagain));
+    assert_eq!(host.make(User::ROOT, GroupId(254), GroupId(1)), Ok(()));
     for group in 2..240 {
-        make(&mut host, 0, group).unwrap();
+        host.make(User::ROOT, GroupId::ROOT, GroupId(group)).unwrap();
     }
     for process in 1..=1024 {
         host.admit(ProcessId(process), User(1000)).unwrap();
@@ -82,8 +68,8 @@ fn full_tree() -> Host {
 fn a_full_tree() {
     let mut host = full_tree();
     assert_eq!((LAST_GROUP, LAST_PROCESS, MAX_DEPTH), (GroupId(255), ProcessId(1024), 16));
-    assert_eq!(host.make(User::ROOT, GroupId::ROOT, GroupId(255), "a"), Err(Refusal::Eexist));
-    assert_eq!(host.make(User::ROOT, GroupId::ROOT, GroupId(256), "a"), Err(Refusal::Einval));
+    assert_eq!(host.make(User::ROOT, GroupId::ROOT, GroupId(255)), Err(Refusal::Eexist));
+    assert_eq!(host.make(User::ROOT, GroupId::ROOT, GroupId(256)), Err(Refusal::Einval));
     assert_eq!(host.admit(ProcessId(1024), User(1000)), Err(Refusal::Eexist));
     assert_eq!(host.admit(ProcessId(1025), User(1000)), Err(Refusal::Einval));
     assert_eq!(host.charge(ProcessId(1), 1), Ok(17));
@@ -120,157 +106,49 @@ fn assert_line(host: &Host, line: &[u8]) {
 #[test]
 fn the_longest_membership_lines() {
     let mut host = full_tree();
-    let path = deepest_path();
-    let line = format!("0::/{path}\n");
-    assert_eq!(line.len(), 516);
-    assert_line(&host, line.as_bytes());
+    let line = b"0::/240/241/242/243/244/245/246/247/248/249/250/251/252/253/254/255\n";
+    assert_eq!(line.len(), 68);
+    assert_line(&host, line);
     for process in (1..=1024).map(ProcessId) {
         host.exit(process).unwrap();
     }
-    assert_line(&host, line.as_bytes());
+    assert_line(&host, line);
     host.remove(User::ROOT, GroupId(255)).unwrap();
-    let deleted = format!("0::/{path} (deleted)\n");
-    assert_eq!((deleted.len(), LONGEST_MEMBERSHIP), (526, 526));
-    assert_line(&host, deleted.as_bytes());
-}
-
-/// The path of the lowest cgroup of the full tree.
-fn deepest_path() -> String {
-    (240..=255).map(long_name).collect::<Vec<_>>().join("/")
-}
-
-fn lost(refusal: Refusal, passed: u64) -> Result<(GroupId, u64), Lost> {
-    Err(Lost { refusal, passed })
-}
-
-#[test]
-fn the_longest_walks() {
-    let mut host = full_tree();
-    let path = deepest_path();
-    assert_eq!(path.len(), 511);
-    assert_eq!(host.walk(GroupId::ROOT, &path), Ok((GroupId(255), 16)));
-    let from_253 = format!("{}/{}", long_name(254), long_name(1));
-    assert_eq!(host.walk(GroupId(253), &from_253), Ok((GroupId(1), 2)));
-    // 1,024 bytes are walked as far as there are cgroups, one more is none.
-    let longer = format!("{path}/{}", "a/".repeat(255) + "aa");
-    assert_eq!(longer.len(), MAX_PATH);
-    assert_eq!(host.walk(GroupId::ROOT, &longer), lost(Refusal::Enoent, 16));
-    assert_eq!(host.walk(GroupId::ROOT, longer + "a"), lost(Refusal::Einval, 0));
-    for process in (1..=1024).map(ProcessId) {
-        host.exit(process).unwrap();
-    }
-    host.remove(User::ROOT, GroupId(255)).unwrap();
-    assert_eq!(host.walk(GroupId::ROOT, &path), lost(Refusal::Enoent, 15));
-    let above = &path[..path.len() - 1 - MAX_NAME];
-    assert_eq!(host.walk(GroupId::ROOT, above), Ok((GroupId(254), 15)));
-}
-
-/// The live processes' lines are paths that lead to their cgroups.
-#[test]
-fn a_membership_line_can_be_walked() {
-    let mut host = Host::fresh(1024);
-    let tree = [(0, 3, "tape-3"), (3, 7, "b"), (0, 8, "b"), (8, 9, "tape-3"), (9, 1, "(deleted)")];
-    for (parent, group, name) in tree {
-        host.make(User::ROOT, GroupId(parent), GroupId(group), name).unwrap();
-        host.admit(ProcessId(group), User(1000)).unwrap();
-        host.write_procs(User::ROOT, GroupId(group), group.to_string()).unwrap();
-    }
-    assert_eq!(host.membership(ProcessId(7)).unwrap(), b"0::/tape-3/b\n");
-    for (_, group, _) in tree {
-        let line = host.membership(ProcessId(group)).unwrap();
-        let path = line.strip_prefix(b"0::/").and_then(|rest| rest.strip_suffix(b"\n")).unwrap();
-        let (reached, _) = host.walk(GroupId::ROOT, path).unwrap();
-        assert_eq!(reached, GroupId(group));
-    }
-    assert_eq!(host.walk(GroupId::ROOT, "b/tape-3/(deleted)"), Ok((GroupId(1), 3)));
-    assert_eq!(host.walk(GroupId(9), ""), Ok((GroupId(9), 0)));
-    assert_eq!(host.walk(GroupId::ROOT, "3/7"), lost(Refusal::Enoent, 0));
-    assert_eq!(host.walk(GroupId::ROOT, "tape-3/b/b"), lost(Refusal::Enoent, 2));
-    for path in ["/", "/b", "b/", "b//tape-3", ".", "b/..", "b\n", "nowhere/ "] {
-        assert_eq!(host.walk(GroupId::ROOT, path), lost(Refusal::Einval, 0), "{path:?}");
-    }
-    assert_eq!(host.walk(GroupId(2), "/"), lost(Refusal::Enoent, 0));
-    assert_eq!(host.walk(GroupId(256), ""), lost(Refusal::Einval, 0));
-}
-
-/// Bytes 33 to 126 but "/" are a name's, and no others.
-#[test]
-fn what_is_a_name() {
-    let mut host = Host::fresh(1024);
-    let mut make = |name: &[u8]| {
-        let made = host.make(User::ROOT, GroupId::ROOT, GroupId(1), name);
-        if made.is_ok() {
-            host.remove(User::ROOT, GroupId(1)).unwrap();
-        }
-        made
-    };
-    for byte in 0..=u8::MAX {
-        let is_good = (33..=126).contains(&byte) && byte != b'/';
-        let expected = if is_good { Ok(()) } else { Err(Refusal::Einval) };
-        assert_eq!(make(&[b'a', byte]), expected, "{byte}");
-        let expected = if byte == b'.' { Err(Refusal::Einval) } else { expected };
-        assert_eq!(make(&[byte]), expected, "{byte}");
-    }
-    for (name, expected) in
-        [("", Err(Refusal::Einval)), ("..", Err(Refusal::Einval)), ("...", Ok(()))]
-    {
-        assert_eq!(make(name.as_bytes()), expected, "{name}");
-    }
-    assert_eq!(make(&[b'a'; MAX_NAME]), Ok(()));
-    assert_eq!(make(&[b'a'; MAX_NAME + 1]), Err(Refusal::Einval));
-}
-
-/// A name is free again at once, though a zombie still shows it.
-#[test]
-fn names_are_free_when_their_cgroup_is_removed() {
-    let mut host = Host::fresh(1024);
-    for (group, process) in [(GroupId(1), ProcessId(5)), (GroupId(2), ProcessId(6))] {
-        host.make(User::ROOT, GroupId::ROOT, group, "tape-114").unwrap();
-        let again = host.make(User::ROOT, GroupId::ROOT, GroupId(3), "tape-114");
-        assert_eq!(again, Err(Refusal::Eexist));
-        host.admit(process, User(1000)).unwrap();
-        host.write_procs(User::ROOT, group, process.to_string()).unwrap();
-        host.exit(process).unwrap();
-        assert_eq!(host.membership(process).unwrap(), b"0::/tape-114\n");
-        assert_eq!(host.walk(GroupId::ROOT, "tape-114"), Ok((group, 1)));
-        host.remove(User::ROOT, group).unwrap();
-        assert_eq!(host.walk(GroupId::ROOT, "tape-114"), lost(Refusal::Enoent, 0));
-    }
-    for process in [5, 6].map(ProcessId) {
-        assert_eq!(host.membership(process).unwrap(), b"0::/tape-114 (deleted)\n");
-    }
+    let deleted = [line.strip_suffix(b"\n").unwrap(), b" (deleted)\n"].concat();
+    assert_eq!((deleted.len(), LONGEST_MEMBERSHIP), (78, 78));
+    assert_line(&host, &deleted);
 }
 
 /// A zombie's number and those of the removed cgroups on its path are taken until it is collected.
 #[test]
 fn numbers_are_free_when_a_zombie_is_collected() {
     let mut host = Host::fresh(1024);
-    host.make(User::ROOT, GroupId::ROOT, GroupId(1), "tape-114").unwrap();
-    host.make(User::ROOT, GroupId(1), GroupId(2), "filters").unwrap();
+    host.make(User::ROOT, GroupId::ROOT, GroupId(1)).unwrap();
+    host.make(User::ROOT, GroupId(1), GroupId(2)).unwrap();
     host.admit(ProcessId(5), User(1000)).unwrap();
     host.write_procs(User::ROOT, GroupId(2), "5").unwrap();
     assert_eq!(host.collect(ProcessId(5)), Err(Refusal::Esrch));
     host.exit(ProcessId(5)).unwrap();
     host.remove(User::ROOT, GroupId(2)).unwrap();
     host.remove(User::ROOT, GroupId(1)).unwrap();
-    assert_eq!(host.membership(ProcessId(5)).unwrap(), b"0::/tape-114/filters (deleted)\n");
+    assert_eq!(host.membership(ProcessId(5)).unwrap(), b"0::/1/2 (deleted)\n");
     for group in [1, 2].map(GroupId) {
-        assert_eq!(host.make(User::ROOT, GroupId::ROOT, group, "a"), Err(Refusal::Eexist));
+        assert_eq!(host.make(User::ROOT, GroupId::ROOT, group), Err(Refusal::Eexist));
         assert_eq!(host.read(group, file::PROCS), Err(Refusal::Enoent));
     }
     assert_eq!(host.admit(ProcessId(5), User(1000)), Err(Refusal::Eexist));
     host.collect(ProcessId(5)).unwrap();
     assert_eq!(host.collect(ProcessId(5)), Err(Refusal::Esrch));
     assert_eq!(host.membership(ProcessId(5)), Err(Refusal::Esrch));
-    host.make(User::ROOT, GroupId::ROOT, GroupId(2), "tape-114").unwrap();
-    host.make(User::ROOT, GroupId(2), GroupId(1), "filters").unwrap();
+    host.make(User::ROOT, GroupId::ROOT, GroupId(2)).unwrap();
+    host.make(User::ROOT, GroupId(2), GroupId(1)).unwrap();
     host.admit(ProcessId(5), User(1000)).unwrap();
 }
 
 /// Cgroup 1 with the last devices that there can be, and the lines that io.max shows of them.
 fn full_io_max() -> (Host, Vec<String>) {
     let mut host = Host::fresh(1024);
-    host.make(User::ROOT, GroupId::ROOT, GroupId(1), "tape-114").unwrap();
+    host.make(User::ROOT, GroupId::ROOT, GroupId(1)).unwrap();
     host.write_subtree_control(User::ROOT, GroupId::ROOT, "+io").unwrap();
     let limits = ["rbps", "wbps", "riops", "wiops"].map(|key| format!(" {key}=4503599627370496"));
     let line = |minor| format!("255:{minor}{}\n", limits.concat());
@@ -318,8 +196,7 @@ fn io_that_leaves_takes_the_devices_with_it() {
 fn numbers_out_of_range_are_refused() {
     let mut host = Host::fresh(1024);
     for group in [256, 1 << 32, u64::MAX].map(GroupId) {
-        assert_eq!(host.make(User::ROOT, GroupId::ROOT, group, "a"), Err(Refusal::Einval));
-        assert_eq!(host.walk(group, ""), lost(Refusal::Einval, 0));
+        assert_eq!(host.make(User::ROOT, GroupId::ROOT, group), Err(Refusal::Einval));
         assert_eq!(host.read(group, file::PROCS), Err(Refusal::Einval));
         assert_eq!(host.release(group, 1), Err(Refusal::Einval));
     }
@@ -352,10 +229,6 @@ fn a_refusal_can_be_shown() {
     let denial = host.charge(ProcessId(5), 1).unwrap_err();
     let shown = "ENOMEM (12): a memory limit or the machine stops a charge, cgroup 0, 1 consulted";
     assert_eq!(denial.to_string(), shown);
-    host.make(User::ROOT, GroupId::ROOT, GroupId(1), "tape-114").unwrap();
-    let lost = host.walk(GroupId::ROOT, "tape-114/filters").unwrap_err();
-    assert_eq!(lost.to_string(), format!("{}, 1 passed", Refusal::Enoent));
-    assert_eq!(Refusal::from(lost), Refusal::Enoent);
     for refusal in Refusal::ALL {
         assert_eq!(Refusal::from_number(refusal.number()), Some(refusal));
     }

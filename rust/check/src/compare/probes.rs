@@ -1,5 +1,5 @@
-//! Calls that bring out what no file shows: owners, own pages, the users of processes, which names and
-//! which numbers are taken.
+//! Calls that bring out what no file shows: owners, own pages, the users of processes, which numbers
+//! are taken.
 
 use super::Pair;
 use crate::call::Call;
@@ -17,7 +17,6 @@ impl<H: Calls> Pair<H> {
         self.probe_owners(&mut probes);
         self.probe_pages(releases, &mut probes);
         self.probe_users(&mut probes);
-        self.probe_names(&mut probes);
         self.probe_numbers(&mut probes);
         probes
     }
@@ -85,7 +84,7 @@ impl<H: Calls> Pair<H> {
         self.model.holds(0).next()?;
         match (1..=LAST_GROUP).find(|&group| self.model.is_unused(group)) {
             Some(group) => {
-                probes.push(make(0, group, b"probe-aside"));
+                probes.push(Call::Make { user: 0, parent: 0, group });
                 Some(group)
             }
             None => (1..=LAST_GROUP)
@@ -93,25 +92,11 @@ impl<H: Calls> Pair<H> {
         }
     }
 
-    /// The name of each live group is asked for beside it; then those of removed groups where they were,
-    /// as far as numbers go.
-    fn probe_names(&self, probes: &mut Vec<Call>) {
-        let unused: Vec<u64> = (1..=LAST_GROUP).filter(|&n| self.model.is_unused(n)).collect();
-        // The first may be the one aside.
-        let [_, unused @ ..] = &unused[..] else { return };
-        let Some(&new) = unused.first() else { return };
-        let live = self.model.live_groups().filter(|&group| group != 0);
-        let live = live.filter_map(|group| self.model.group(group));
-        probes.extend(live.map(|kept| make(kept.parent, new, &kept.name)));
-        let removed = self.model.removed.values();
-        probes.extend(removed.zip(unused).map(|(gone, &new)| make(gone.parent, new, &gone.name)));
-    }
-
     /// Groups are made of all numbers that are not live, and processes of zombies' numbers; where a
     /// zombie stands in the way, once more when all are collected. Last of all, since little is free
     /// after it.
     fn probe_numbers(&self, probes: &mut Vec<Call>) {
-        let make = |group: u64| make(0, group, format!("probe-{group}").as_bytes());
+        let make = |group| Call::Make { user: 0, parent: 0, group };
         let dead = (1..=LAST_GROUP).filter(|&group| self.model.group(group).is_none());
         probes.extend(dead.map(make));
         let admit = |process| Call::Admit { process, user: 0 };
@@ -120,9 +105,4 @@ impl<H: Calls> Pair<H> {
         probes.extend(self.model.removed_groups().map(make));
         probes.extend(self.model.zombies().map(admit));
     }
-}
-
-/// Names that begin with "probe-" are taken by no list.
-fn make(parent: u64, group: u64, name: &[u8]) -> Call {
-    Call::Make { user: 0, parent, group, name: name.to_vec() }
 }

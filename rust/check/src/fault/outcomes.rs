@@ -393,13 +393,13 @@ pub(super) fn settings_outlive(done: &mut Outcome) {
     if let Some((group, ..)) = removed(done)
         && let Some(removed) = done.before.group(group)
     {
-        done.removed.insert(group, removed.clone());
+        done.removed.insert(group, removed.settings.clone());
     }
     if let Call::Make { group, .. } = done.call
         && done.is_success()
-        && let Some(removed) = done.removed.remove(group)
+        && let Some(settings) = done.removed.remove(group)
     {
-        done.after.group_mut(*group).settings = removed.settings;
+        done.after.group_mut(*group).settings = settings;
     }
 }
 

@@ -8,8 +8,7 @@ use crate::model::DEEPEST;
 impl Reading<'_> {
     /// The text that was put into the buffer.
     pub(super) fn text(&self) -> Option<&str> {
-        let has_text = matches!(self.call, Call::Read { .. } | Call::Membership { .. });
-        if self.number != 0 || !has_text {
+        if self.number != 0 {
             return None;
         }
         std::str::from_utf8(&self.reply[..self.told[0] as usize]).ok()

@@ -24,8 +24,7 @@ fn change_groups(call: &mut Call, change: impl Fn(u64) -> u64) {
         | Call::WriteSubtreeControl { group, .. }
         | Call::WriteSetting { group, .. }
         | Call::Release { group, .. }
-        | Call::Read { group, .. }
-        | Call::Walk { group, .. } => *group = change(*group),
+        | Call::Read { group, .. } => *group = change(*group),
         _ => {}
     }
 }
@@ -154,12 +153,6 @@ pub(super) fn release_to_63(_: &Model, call: &mut Call) {
 
 pub(super) fn read_to_63(_: &Model, call: &mut Call) {
     if let Call::Read { group, .. } = call {
-        end_group(group);
-    }
-}
-
-pub(super) fn walk_from_63(_: &Model, call: &mut Call) {
-    if let Call::Walk { group, .. } = call {
         end_group(group);
     }
 }
@@ -430,7 +423,7 @@ pub(super) fn texts_to_4012(reading: &mut Reading) -> u32 {
     refused_above(reading, 4012)
 }
 
-/// Shows the names of a membership line otherwise, in no more bytes.
+/// Shows the numbers of a membership line otherwise, in no more bytes.
 fn path(reading: &mut Reading, change: fn(Vec<&str>) -> Vec<&str>) -> u32 {
     if let Call::Membership { .. } = reading.call
         && let Some(text) = reading.text()
@@ -443,17 +436,17 @@ fn path(reading: &mut Reading, change: fn(Vec<&str>) -> Vec<&str>) -> u32 {
 }
 
 pub(super) fn path_in_2_digits(reading: &mut Reading) -> u32 {
-    path(reading, |names| {
-        names.into_iter().map(|name| &name[name.len().saturating_sub(2)..]).collect()
+    path(reading, |numbers| {
+        numbers.into_iter().map(|number| &number[number.len().saturating_sub(2)..]).collect()
     })
 }
 
 pub(super) fn path_of_lowest_eight(reading: &mut Reading) -> u32 {
-    path(reading, |names| names[names.len().saturating_sub(OLD_DEEPEST)..].to_vec())
+    path(reading, |numbers| numbers[numbers.len().saturating_sub(OLD_DEEPEST)..].to_vec())
 }
 
 pub(super) fn path_of_highest_eight(reading: &mut Reading) -> u32 {
-    path(reading, |names| names.into_iter().take(OLD_DEEPEST).collect())
+    path(reading, |numbers| numbers.into_iter().take(OLD_DEEPEST).collect())
 }
 
 pub(super) fn path_cut_at_28(reading: &mut Reading) -> u32 {
@@ -483,26 +476,4 @@ pub(super) fn lines_to_68(reading: &mut Reading) -> u32 {
 
 pub(super) fn lines_to_77(reading: &mut Reading) -> u32 {
     lines_to(reading, 77)
-}
-
-/// As many as there were before order 6.
-pub(super) fn lines_to_78(reading: &mut Reading) -> u32 {
-    lines_to(reading, 78)
-}
-
-pub(super) fn lines_to_255(reading: &mut Reading) -> u32 {
-    lines_to(reading, 255)
-}
-
-pub(super) fn lines_to_515(reading: &mut Reading) -> u32 {
-    lines_to(reading, 515)
-}
-
-/// As many as a live process's has.
-pub(super) fn lines_to_516(reading: &mut Reading) -> u32 {
-    lines_to(reading, 516)
-}
-
-pub(super) fn lines_to_525(reading: &mut Reading) -> u32 {
-    lines_to(reading, 525)
 }

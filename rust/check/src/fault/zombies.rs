@@ -7,7 +7,7 @@ use crate::calls::{Calls, NO_GROUP};
 use crate::checks::{
     Check, admit, charge, collect, exit, fork, make, remove, write_procs, write_subtree_control,
 };
-use crate::model::{EMPTY, Group, Model, PIDS};
+use crate::model::{DEFAULTS, EMPTY, Model, PIDS};
 
 /// The zombies whose own group this is.
 fn zombies_of(model: &Model, group: u64) -> impl Iterator<Item = u64> {
@@ -20,13 +20,13 @@ fn zombies_inside(model: &Model, group: u64) -> u64 {
 }
 
 /// Whether this check alone refuses the call.
-pub(super) fn refused_only_by(done: &Outcome, check: &'static Check) -> bool {
+fn refused_only_by(done: &Outcome, check: &'static Check) -> bool {
     done.before.held(done.call) == [check]
 }
 
 /// Says 0 where this check alone refuses the call. That it is not done is left at that: the number
 /// shows.
-pub(super) fn granted(done: &mut Outcome, check: &'static Check) {
+fn granted(done: &mut Outcome, check: &'static Check) {
     if refused_only_by(done, check) {
         *done.number = 0;
     }
@@ -35,7 +35,7 @@ pub(super) fn granted(done: &mut Outcome, check: &'static Check) {
 impl Reading<'_> {
     /// Puts another text in place of the right one, where there is room for it. Answers what the
     /// reader gets.
-    pub(super) fn show_any(&mut self, text: &str) -> u32 {
+    fn show_any(&mut self, text: &str) -> u32 {
         if text.len() > self.reply.len() {
             self.told[0] = 0;
             return 28;
@@ -45,7 +45,7 @@ impl Reading<'_> {
     }
 
     /// The zombie whose line was delivered, and whether its own group was removed.
-    pub(super) fn zombie(&self) -> Option<(u64, bool)> {
+    fn zombie(&self) -> Option<(u64, bool)> {
         match self.call {
             Call::Membership { process, .. } if self.number == 0 => {
                 let own = self.model.path(*process).first().copied()?;
@@ -287,7 +287,7 @@ pub(super) fn made_in_place(done: &mut Outcome) {
 
 pub(super) fn made_by_another_parent(done: &mut Outcome) {
     if let Call::Make { parent, group, .. } = done.call
-        && done.before.removed.get(group).is_some_and(|former| former.parent != *parent)
+        && done.before.removed.get(group).is_some_and(|former| former != parent)
     {
         granted(done, make::NEW_ON_ZOMBIES_PATH);
     }
@@ -295,11 +295,11 @@ pub(super) fn made_by_another_parent(done: &mut Outcome) {
 
 /// The group is made, and the lines of zombies show where it is now.
 pub(super) fn line_follows(done: &mut Outcome) {
-    if let Call::Make { user, parent, group, name } = done.call
+    if let Call::Make { user, parent, group } = done.call
         && refused_only_by(done, make::NEW_ON_ZOMBIES_PATH)
     {
         done.after.removed.remove(group);
-        *done.number = done.after.make(*user, *parent, *group, name);
+        *done.number = done.after.make(*user, *parent, *group);
     }
 }
 
@@ -311,7 +311,7 @@ fn freed(done: &Outcome) -> Vec<u64> {
 
 /// Refuses to make a number again that is noted as one of a removed group.
 fn never_made_again(done: &mut Outcome, noted: Vec<u64>) {
-    done.removed.extend(noted.into_iter().map(|group| (group, Group::new(0, 0, b""))));
+    done.removed.extend(noted.into_iter().map(|group| (group, DEFAULTS)));
     if let Call::Make { group, .. } = done.call
         && done.is_success()
         && done.removed.contains_key(group)
@@ -425,10 +425,11 @@ pub(super) fn deleted_after_newline(reading: &mut Reading) -> u32 {
 
 pub(super) fn path_cut(reading: &mut Reading) -> u32 {
     if let Some((zombie, true)) = reading.zombie() {
-        let path = reading.model.path(zombie).into_iter();
+        let path = reading.model.path(zombie).into_iter().rev().skip(1);
         let live = path.filter(|group| !reading.model.is_on_zombies_path(*group));
-        let live = reading.model.names_of(&live.collect::<Vec<_>>());
-        let line = format!("0::/{} (deleted)\n", String::from_utf8_lossy(&live));
+        let live: String = live.map(|group| format!("/{group}")).collect();
+        let live = if live.is_empty() { "/" } else { &live };
+        let line = format!("0::{live} (deleted)\n");
         reading.show(&line);
     }
     reading.number
@@ -436,8 +437,7 @@ pub(super) fn path_cut(reading: &mut Reading) -> u32 {
 
 pub(super) fn path_without_parents(reading: &mut Reading) -> u32 {
     if let Some((zombie, true)) = reading.zombie() {
-        let name = reading.model.name(reading.model.path(zombie)[0]);
-        let line = format!("0::/{} (deleted)\n", String::from_utf8_lossy(name));
+        let line = format!("0::/{} (deleted)\n", reading.model.path(zombie)[0]);
         reading.show(&line);
     }
     reading.number

@@ -12,7 +12,6 @@ mod controllers;
 mod cross;
 mod devices;
 mod limits;
-mod names;
 mod odd_bytes;
 mod owners;
 mod pages;
@@ -54,31 +53,26 @@ const OF_ZOMBIES: [Scene; 5] = [
 
 /// Scenes that come one after the other. Their number has no factor in common with `TURNS`, so that
 /// seeds begin at each of them.
-const IN_TURN: [Scene; 26] = [
+const IN_TURN: [Scene; 21] = [
     Generator::cross_make,
     Generator::bounds,
     Generator::cross_control,
     Generator::lineage,
     Generator::cross_births,
-    Generator::cross_walk,
     Generator::afterlife,
     Generator::burial,
     Generator::cross_settings,
     Generator::device_room,
     Generator::hoard,
-    Generator::namesakes,
     Generator::uncounted,
     Generator::cross_procs,
     Generator::odd_numbers,
-    Generator::second_life,
     Generator::cross_groups,
     Generator::family,
     Generator::cross_pages,
-    Generator::long_names,
     Generator::odd_controls,
     Generator::departed,
     Generator::device_lines,
-    Generator::odd_names,
     Generator::cross_reads,
     Generator::long_lines,
 ];
@@ -196,20 +190,10 @@ impl Generator {
         self.random.one_of(sketch.live_groups().filter(|&group| group != 0))
     }
 
-    /// Makes a group of this number, under a name that is free.
-    pub(super) fn make(&mut self, sketch: &mut Model, user: u32, parent: u64, group: u64) {
-        let name = self.free_name(sketch, parent, group);
-        self.plan(sketch, Call::Make { user, parent, group, name });
-    }
-
-    pub(super) fn walk_along(&mut self, sketch: &mut Model, group: u64, path: &[u8]) {
-        self.plan(sketch, Call::Walk { group, path: path.to_vec() });
-    }
-
     /// Makes a group under `parent` as `user`, if a number is free.
     pub(super) fn child(&mut self, sketch: &mut Model, user: u32, parent: u64) -> Option<u64> {
         let group = self.free_group(sketch)?;
-        self.make(sketch, user, parent, group);
+        self.plan(sketch, Call::Make { user, parent, group });
         Some(group)
     }
 

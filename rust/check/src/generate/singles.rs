@@ -13,8 +13,7 @@ impl Generator {
             Kind::Make => {
                 let parent = self.parent(model);
                 let group = self.new_group(model);
-                let name = self.new_name(model, parent, group);
-                Call::Make { user: self.writer(model, parent), parent, group, name }
+                Call::Make { user: self.writer(model, parent), parent, group }
             }
             Kind::Remove => {
                 let childless = |&group: &u64| model.children(group).next().is_none();
@@ -102,10 +101,6 @@ impl Generator {
                 };
                 let question = Call::Membership { process, room: ROOM };
                 self.with_room(model, question)
-            }
-            Kind::Walk => {
-                let (group, path) = self.walk(model);
-                Call::Walk { group, path }
             }
             Kind::FirstBadWord => {
                 let line = self.control_line();

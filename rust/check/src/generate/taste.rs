@@ -36,8 +36,6 @@ pub(super) struct Taste {
     pub odd_lines: u64,
     /// Numbers in range that are not live.
     pub absent: u64,
-    /// Groups that are named by their numbers.
-    pub numbered: u64,
     /// Numbers that are not live, yet taken: zombies', and those of removed groups on their paths.
     pub taken: u64,
     pub has_many_zombies: bool,
@@ -63,11 +61,10 @@ pub(super) enum Kind {
     Release,
     Read,
     Membership,
-    Walk,
     FirstBadWord,
 }
 
-const KINDS: [(Kind, u64); 16] = [
+const KINDS: [(Kind, u64); 15] = [
     (Kind::Make, 4),
     (Kind::Remove, 2),
     (Kind::HandOver, 2),
@@ -82,7 +79,6 @@ const KINDS: [(Kind, u64); 16] = [
     (Kind::Release, 3),
     (Kind::Read, 3),
     (Kind::Membership, 1),
-    (Kind::Walk, 3),
     (Kind::FirstBadWord, 1),
 ];
 
@@ -101,7 +97,6 @@ impl Taste {
             deep: random.pick(&[5, 40, 80]),
             odd_lines: random.pick(&[5, 20, 50]),
             absent: random.pick(&[1, 3, 8]),
-            numbered: random.pick(&[5, 30, 80]),
             taken: if has_many_zombies { 15 } else { random.pick(&[1, 3, 8]) },
             has_many_zombies,
             scenes: if has_many_zombies { 40 } else { random.pick(&[10, 16, 24]) },
@@ -120,7 +115,6 @@ fn favour(random: &mut Random, kind: Kind, has_many_zombies: bool) -> u64 {
         Kind::Make | Kind::Admit | Kind::WriteProcs if has_many_zombies => 3,
         Kind::Fork | Kind::Exit | Kind::Remove if has_many_zombies => 6,
         Kind::Collect if has_many_zombies => random.pick(&[0, 1]),
-        Kind::Walk if has_many_zombies => 1,
         Kind::Make | Kind::Admit => random.pick(&[1, 1, 3]),
         _ => random.pick(&[0, 1, 1, 3]),
     }

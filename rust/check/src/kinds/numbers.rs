@@ -4,7 +4,7 @@ use super::{Kind, kind};
 use crate::call::Call;
 use crate::checks::{
     Check, admit, charge, collect, exit, fork, hand_over, make, membership, read, release, remove,
-    walk, write_procs, write_setting, write_subtree_control,
+    write_procs, write_setting, write_subtree_control,
 };
 use crate::model::{LAST_GROUP, LAST_PROCESS};
 
@@ -18,7 +18,6 @@ pub(super) const GROUPS: &[&str] = &[
     "write_setting",
     "release",
     "read",
-    "walk",
 ];
 
 pub(super) const PROCESSES: &[&str] = &[
@@ -33,7 +32,7 @@ pub(super) const PROCESSES: &[&str] = &[
 ];
 
 /// The checks that refuse a number above the last.
-const ABOVE: [&Check; 18] = [
+const ABOVE: [&Check; 17] = [
     make::PARENT_ABOVE_LAST,
     make::NEW_ABOVE_LAST,
     remove::ABOVE_LAST,
@@ -51,7 +50,6 @@ const ABOVE: [&Check; 18] = [
     release::ABOVE_LAST,
     read::ABOVE_LAST,
     membership::OUTSIDE,
-    walk::ABOVE_LAST,
 ];
 
 /// The places where a call has such a number: with a last one it is accepted, and with the next it

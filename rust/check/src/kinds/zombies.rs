@@ -6,8 +6,8 @@ use std::collections::BTreeSet;
 use super::{Kind, kind};
 use crate::call::Call;
 use crate::checks::{
-    Check, admit, charge, collect, exit, fork, hand_over, make, read, release, remove, walk,
-    write_procs, write_setting, write_subtree_control,
+    Check, admit, charge, collect, exit, fork, hand_over, make, read, release, remove, write_procs,
+    write_setting, write_subtree_control,
 };
 use crate::model::{DEEPEST, EMPTY, LAST_PROCESS, Model, PIDS};
 
@@ -68,7 +68,6 @@ pub(super) const NOT_LIVE: &[&str] = &[
     "write_setting",
     "release",
     "read",
-    "walk",
 ];
 
 /// What a collection frees.
@@ -99,19 +98,15 @@ pub(super) const NOT_COLLECTED: &[&str] = &[
 pub(super) const AGAIN: &[&str] =
     &["group made", "group made under another parent", "process admitted", "process forked"];
 
-/// Lengths of lines that end in " (deleted)": all of numbers, from "0::/1 (deleted)" and a newline on,
-/// and those of names about the ends of machine words, up to the longest.
-pub(super) const LENGTHS: &[&str] = &[
+/// The lengths of the lines that end in " (deleted)", from "0::/1 (deleted)" and a newline on.
+pub(super) const LENGTHS: &[&str; LONGEST - SHORTEST + 1] = &[
     "16", "17", "18", "19", "20", "21", "22", "23", "24", "25", "26", "27", "28", "29", "30", "31",
     "32", "33", "34", "35", "36", "37", "38", "39", "40", "41", "42", "43", "44", "45", "46", "47",
     "48", "49", "50", "51", "52", "53", "54", "55", "56", "57", "58", "59", "60", "61", "62", "63",
-    "64", "65", "66", "67", "68", "69", "70", "71", "72", "73", "74", "75", "76", "77", "78", "79",
-    "127", "128", "129", "255", "256", "257", "511", "512", "513", "515", "516", "525", "526",
+    "64", "65", "66", "67", "68", "69", "70", "71", "72", "73", "74", "75", "76", "77", "78",
 ];
-
-/// The same of lines without it.
-pub(super) const LONG_LINES: &[&str] =
-    &["79", "127", "128", "129", "255", "256", "257", "511", "512", "513", "515", "516"];
+const SHORTEST: usize = 16;
+const LONGEST: usize = 78;
 
 /// What a list has freed so far.
 #[derive(Default)]
@@ -129,8 +124,7 @@ impl Freed {
             (Call::Collect { process }, None) => {
                 self.processes.insert(*process);
                 let freed = freed(model, *process);
-                self.groups
-                    .extend(freed.into_iter().map(|group| (group, model.removed[&group].parent)));
+                self.groups.extend(freed.into_iter().map(|group| (group, model.removed[&group])));
                 vec![]
             }
             (Call::Collect { process }, Some(check)) if **check == *collect::FREE => {
@@ -317,7 +311,7 @@ fn refused(model: &Model, call: &Call, held: &[&'static Check]) -> Vec<Kind> {
         (charge::IS_ZOMBIE, "charge"),
         (write_procs::PROCESS_IS_ZOMBIE, "write_procs"),
     ];
-    const ABSENT: [(&Check, &str); 9] = [
+    const ABSENT: [(&Check, &str); 8] = [
         (make::PARENT_NOT_LIVE, "make, parent"),
         (remove::NOT_LIVE, "remove"),
         (hand_over::NOT_LIVE, "hand_over"),
@@ -326,7 +320,6 @@ fn refused(model: &Model, call: &Call, held: &[&'static Check]) -> Vec<Kind> {
         (write_setting::NOT_LIVE, "write_setting"),
         (release::NOT_LIVE, "release"),
         (read::NOT_LIVE, "read"),
-        (walk::NOT_LIVE, "walk"),
     ];
     let Some(first) = held.first() else { return vec![] };
     let mut kinds = vec![];
@@ -397,21 +390,13 @@ fn not_collected(model: &Model, process: u64) -> Vec<Kind> {
     holding.map(|(_, name)| kind("collect, refused", name)).collect()
 }
 
-/// A line of one of these lengths, into a buffer that it fills or that is a byte short.
-pub(super) fn line(length: usize, room: usize, is_deleted: bool) -> Vec<Kind> {
-    let what = match (is_deleted, room) {
-        (true, _) if room == length => "line with \" (deleted)\", buffer of exactly the length",
-        (true, _) if room + 1 == length => "line with \" (deleted)\", buffer one byte short",
-        (false, _) if room == length => "line in a live group, buffer of exactly the length",
-        (false, _) if room + 1 == length => "line in a live group, buffer one byte short",
+/// A line that ends in " (deleted)", of this length, into a buffer that it fills or that is a byte
+/// short.
+pub(super) fn line(length: usize, room: usize) -> Vec<Kind> {
+    let what = match room {
+        _ if room == length => "line with \" (deleted)\", buffer of exactly the length",
+        _ if room + 1 == length => "line with \" (deleted)\", buffer one byte short",
         _ => return vec![],
     };
-    let lengths = if is_deleted { LENGTHS } else { LONG_LINES };
-    let length = length.to_string();
-    lengths
-        .iter()
-        .find(|named| **named == length)
-        .map(|named| kind(what, named))
-        .into_iter()
-        .collect()
+    vec![kind(what, LENGTHS[length - SHORTEST])]
 }

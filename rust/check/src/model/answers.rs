@@ -13,9 +13,7 @@ impl Model {
     /// The checks of a call, in order, each with whether it holds.
     pub fn checks(&self, call: &Call) -> Vec<Test> {
         match call {
-            Call::Make { user, parent, group, name } => {
-                self.make_checks(*user, *parent, *group, name).into()
-            }
+            Call::Make { user, parent, group } => self.make_checks(*user, *parent, *group).into(),
             Call::Remove { user, group } => self.remove_checks(*user, *group).into(),
             Call::HandOver { user, group, .. } => self.hand_over_checks(*user, *group).into(),
             Call::WriteProcs { user, group, line } => {
@@ -43,7 +41,6 @@ impl Model {
                 let line = self.membership_line(*process);
                 self.membership_checks(*process, &line, *room).into()
             }
-            Call::Walk { group, path } => self.walk_checks(*group, path).into(),
             Call::FirstBadWord { .. } => vec![],
         }
     }
@@ -60,8 +57,8 @@ impl Calls for Model {
         Model::new(machine_pages)
     }
 
-    fn make(&mut self, user: u32, parent: u64, group: u64, name: &[u8]) -> u32 {
-        number_of(self.try_make(user, parent, group, name))
+    fn make(&mut self, user: u32, parent: u64, group: u64) -> u32 {
+        number_of(self.try_make(user, parent, group))
     }
 
     fn remove(&mut self, user: u32, group: u64) -> u32 {
@@ -114,10 +111,6 @@ impl Calls for Model {
 
     fn membership(&self, process: u64, reply: &mut [u8], told: &mut [u64; 1]) -> u32 {
         number_of(self.try_membership(process, reply, told))
-    }
-
-    fn walk(&self, group: u64, path: &[u8], told: &mut [u64; 2]) -> u32 {
-        number_of(self.try_walk(group, path, told))
     }
 
     fn first_bad_word(&self, line: &[u8], told: &mut [u64; 2]) {

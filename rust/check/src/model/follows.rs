@@ -2,17 +2,9 @@
 
 use super::*;
 
-impl Group {
-    /// A group as it is made.
-    pub(crate) fn new(parent: u64, owner: u32, name: &[u8]) -> Group {
-        let name = name.to_vec();
-        Group { parent, name, owner, set: EMPTY, own_pages: 0, settings: DEFAULTS }
-    }
-}
-
 impl Model {
     pub fn new(machine: u64) -> Model {
-        let root = Group::new(ROOT, 0, b"");
+        let root = Group { parent: ROOT, owner: 0, set: EMPTY, own_pages: 0, settings: DEFAULTS };
         let mut groups = vec![None; LAST_GROUP as usize + 1];
         groups[ROOT as usize] = Some(Box::new(root));
         Model {
@@ -102,9 +94,7 @@ impl Model {
     /// The group of a zombie, its parent and so on to the root, removed ones included; empty if it is
     /// no zombie.
     pub fn path(&self, zombie: u64) -> Vec<u64> {
-        let above = |&group: &u64| {
-            self.parent(group).or_else(|| self.removed.get(&group).map(|gone| gone.parent))
-        };
+        let above = |&group: &u64| self.parent(group).or_else(|| self.removed.get(&group).copied());
         std::iter::successors(self.zombies.get(&zombie).copied(), above).collect()
     }
 

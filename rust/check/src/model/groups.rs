@@ -1,31 +1,25 @@
 //! The calls that change groups.
 
-use super::names::bad_name;
 use super::*;
 use crate::checks::{hand_over, make, remove};
 
 impl Model {
-    pub(super) fn make_checks(&self, user: u32, parent: u64, new: u64, name: &[u8]) -> [Test; 12] {
-        let [is_empty, is_long, has_bad_byte, is_dots] = bad_name(name);
+    pub(super) fn make_checks(&self, user: u32, parent: u64, new: u64) -> [Test; 7] {
         [
             (parent > LAST_GROUP, make::PARENT_ABOVE_LAST),
             (new > LAST_GROUP, make::NEW_ABOVE_LAST),
-            (is_empty, make::NAME_EMPTY),
-            (is_long, make::NAME_LONG),
-            (has_bad_byte, make::NAME_BAD_BYTE),
-            (is_dots, make::NAME_DOTS),
             (self.group(parent).is_none(), make::PARENT_NOT_LIVE),
             (self.group(new).is_some(), make::NEW_IS_LIVE),
             (self.is_on_zombies_path(new), make::NEW_ON_ZOMBIES_PATH),
-            (self.child_named(parent, name).is_some(), make::NAME_TAKEN),
             (!self.may_write(user, parent), make::MAY_NOT_WRITE_PARENT),
             (self.depth(parent) == DEEPEST, make::PARENT_DEEPEST),
         ]
     }
 
-    pub(super) fn try_make(&mut self, user: u32, parent: u64, new: u64, name: &[u8]) -> Verdict {
-        decide(&self.make_checks(user, parent, new, name))?;
-        self.groups[new as usize] = Some(Box::new(Group::new(parent, user, name)));
+    pub(super) fn try_make(&mut self, user: u32, parent: u64, new: u64) -> Verdict {
+        decide(&self.make_checks(user, parent, new))?;
+        let group = Group { parent, owner: user, set: EMPTY, own_pages: 0, settings: DEFAULTS };
+        self.groups[new as usize] = Some(Box::new(group));
         Ok(())
     }
 
@@ -46,8 +40,7 @@ impl Model {
         decide(&self.remove_checks(user, group))?;
         let removed = self.groups[group as usize].take().expect("checked");
         self.group_mut(removed.parent).own_pages += removed.own_pages;
-        let Group { parent, name, .. } = *removed;
-        self.removed.insert(group, Removed { parent, name });
+        self.removed.insert(group, removed.parent);
         self.forget_removed();
         Ok(())
     }

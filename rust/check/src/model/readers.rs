@@ -107,8 +107,10 @@ impl Model {
         };
         let Some(&own) = path.first() else { return String::new() };
         let end = if self.group(own).is_none() { " (deleted)" } else { "" };
-        let path = self.names_of(&path);
-        format!("0::/{}{end}\n", String::from_utf8_lossy(&path))
+        let below_root = path.into_iter().rev().skip(1);
+        let path: String = below_root.map(|group| format!("/{group}")).collect();
+        let path = if path.is_empty() { "/" } else { &path };
+        format!("0::{path}{end}\n")
     }
 
     pub(super) fn membership_checks(&self, process: u64, line: &str, room: usize) -> [Test; 3] {

@@ -8,16 +8,7 @@ use shootspiral_check::{Call, Calls};
 pub const ALL: &str = "+cpu +io +memory +pids";
 
 pub fn make(user: u32, parent: u64, group: u64) -> Call {
-    Call::numbered(user, parent, group)
-}
-
-/// A group with a name of its own; by `make` it has its number.
-pub fn named(user: u32, parent: u64, group: u64, name: impl AsRef<[u8]>) -> Call {
-    Call::Make { user, parent, group, name: name.as_ref().to_vec() }
-}
-
-pub fn walk(group: u64, path: impl AsRef<[u8]>) -> Call {
-    Call::Walk { group, path: path.as_ref().to_vec() }
+    Call::Make { user, parent, group }
 }
 
 pub fn remove(user: u32, group: u64) -> Call {
@@ -82,7 +73,7 @@ pub fn descent() -> [Call; 16] {
     })
 }
 
-/// The membership line there.
+/// The membership line there, the longest that a live process has.
 pub const DEEP_LINE: &str = "0::/240/241/242/243/244/245/246/247/248/249/250/251/252/253/254/255\n";
 
 /// What stands after a text in its buffer.
@@ -142,26 +133,6 @@ impl<H: Calls> Evening<H> {
     fn tells(&mut self, call: Call, number: u32, group: u64, consulted: u64) {
         let answer = call.on(&mut self.host, 0);
         assert_eq!((answer.number, &answer.told[..2]), (number, &[group, consulted][..]), "{call}");
-    }
-
-    /// A walk that reaches a group, and the number of names passed.
-    #[track_caller]
-    pub fn reaches(&mut self, group: u64, path: impl AsRef<[u8]>, reached: u64, passed: u64) {
-        self.tells(walk(group, path), 0, reached, passed);
-    }
-
-    /// A walk that stops at a name, and the number of names passed.
-    #[track_caller]
-    pub fn loses(&mut self, group: u64, path: impl AsRef<[u8]>, passed: u64) {
-        self.tells(walk(group, path), 2, NO_GROUP, passed);
-    }
-
-    /// Walks that are refused before they begin.
-    #[track_caller]
-    pub fn astray<const N: usize>(&mut self, number: u32, walks: [Call; N]) {
-        for walk in walks {
-            self.tells(walk, number, NO_GROUP, 0);
-        }
     }
 
     /// A file's text, in a buffer that is four bytes longer and in one that it fills.

@@ -1,20 +1,17 @@
--- `files::path::put_path` meets its contract: the path of a group is its parent's, a "/" and its name. The measure is
+-- `files::path::put_path` meets its contract: the path of a group is its parent's, a "/" and its number. The measure is
 -- the depth, which is one less for the parent. Assumes nothing.
 use Prim.Native.Nat.{ℕ, ◌<◌}
 use native.Mathlib.Omega.{arith}
-use mathlib.Core.Path.{ap, ◌∙◌}
-use lib.ListN.{length}
+use mathlib.Core.Path.{◌∙◌}
 use borrow.Fn.Kinds.{In}
 use borrow.Fn.PlainCycle.{Measures, is, falls, and}
-use Rattle.model.specs.Zombies.{path_parents, path_names}
-use Rattle.model.specs.Paths.{good_name}
+use Rattle.model.specs.Zombies.{path_parents}
 use Rattle.text.proofs.WriteLaws.{appended_then, appended-as, appended_nothing}
 use Rattle.text.proofs.write.put_byte.Reads as put-byte-reads
-use Rattle.names.proofs.packed.put_name.Reads as put-name-reads
+use Rattle.text.proofs.write.put_number.Reads as put-number-reads
 use Rattle.tree.specs.Layout.{view}
 use Rattle.model.proofs.LengthLaws.{path-none}
-use Rattle.files.proofs.PathLaws.{there-low, path-text, path-fits, path-named, path-above}
-use Rattle.files.proofs.path.path_name.Reads as path-name-reads
+use Rattle.files.proofs.PathLaws.{there-low, path-text, path-fits, path-above}
 use Rattle.files.proofs.path.path_parent.Reads as path-parent-reads
 use Rattle.files.proofs.path.+put_path.{statement}
 use Rattle.files.proofs.path.+put_path.Lts-put_path as lts
@@ -41,10 +38,8 @@ claims t = (
   put-path.Post,
   put-byte-reads.Asked,
   put-byte-reads.Learnt,
-  path-name-reads.Asked,
-  path-name-reads.Learnt,
-  put-name-reads.Asked,
-  put-name-reads.Learnt,
+  put-number-reads.Asked,
+  put-number-reads.Learnt,
 )
 
 module _ (t : ℕ) where
@@ -52,7 +47,7 @@ module _ (t : ℕ) where
   returns : lts.Need-returns (claims t) (put-path-at t) put-path.Post
   returns c =
       let a = c.before.before.args in
-      appended-as (path-none (path_parents (view a.t.now)) (path_names (view a.t.now)) a.deep a.g.0 c.if1.true)
+      appended-as (path-none (path_parents (view a.t.now)) a.deep a.g.0 c.if1.true)
       (appended_nothing a.out.now a.at)
 
   path-parent-requires : lts.Need-path-parent-requires (claims t) (put-path-at t) put-path.Post
@@ -81,46 +76,38 @@ module _ (t : ℕ) where
         p.put-path.auto.1.1.1.0,
       )
 
-  path-name-requires : lts.Need-path-name-requires (claims t) (put-path-at t) put-path.Post
-  path-name-requires c κs = there-low c.before.before.before.before.before.before.before.before.before.before.before.before.requires.1.group
-
-  put-name-requires : lts.Need-put-name-requires (claims t) (put-path-at t) put-path.Post
-  put-name-requires c κs =
-      let b = c.before.before.before.before in
+  put-number-requires : lts.Need-put-number-requires (claims t) (put-path-at t) put-path.Post
+  put-number-requires c κs =
+      let b = c.before.before.before in
       let p = b.before.before.before.before in
       let u = p.before.before in
       let s = u.before.before.before in
-      let nz = u.before.if1.false in (
-        ap good_name c.path-name.ensures ∙ path-named _ _ _ _ _ s.requires.1 nz _ u.path_parent.ensures,
-        omega (
-          arith,
-          ap length c.path-name.ensures,
-          path-fits _ _ _ _ _ s.requires.1 nz _ u.path_parent.ensures,
-          p.put-path.ensures.end,
-          p.put-path.auto.1.1.1.0,
-          b.put_byte.ensures.end,
-          b.put_byte.auto.0,
-        ),
+      omega (
+        arith,
+        path-fits _ _ _ _ _ s.requires.1 u.before.if1.false _ u.path_parent.ensures,
+        p.put-path.ensures.end,
+        p.put-path.auto.1.1.1.0,
+        b.put_byte.ensures.end,
+        b.put_byte.auto.0,
       )
 
   same_length : lts.Need-same-length (claims t) (put-path-at t) put-path.Post
   same_length c =
       let n = c.before.before in
-      let b = n.before.before.before.before.before in
+      let b = n.before.before.before.before in
       let p = b.before.before.before.before in
-      n.put-name.auto.0 ∙ b.put_byte.auto.0 ∙ p.put-path.auto.1.1.1.0
+      n.put-number.auto.0 ∙ b.put_byte.auto.0 ∙ p.put-path.auto.1.1.1.0
 
-  -- the parent's path, and then the name
+  -- the parent's path, and then the number
   returns-2 : lts.Need-returns-2 (claims t) (put-path-at t) put-path.Post
   returns-2 c =
       let n = c.before.before in
-      let m = n.before in
-      let b = m.before.before.before.before in
+      let b = n.before.before.before.before in
       let p = b.before.before.before.before in
       let u = p.before.before in
       let s = u.before.before.before in
       appended-as (path-text _ _ _ _ _ s.requires.1 u.before.if1.false _ u.path_parent.ensures)
-      (appended_then p.put-path.ensures (appended_then b.put_byte.ensures (appended-as m.path-name.ensures n.put-name.ensures)))
+      (appended_then p.put-path.ensures (appended_then b.put_byte.ensures n.put-number.ensures))
 
 pub +put-path-spec : {M : Type 1} → statement M
 +put-path-spec =
@@ -132,7 +119,6 @@ pub +put-path-spec : {M : Type 1} → statement M
     (sub-put-path t)
     (put-path-requires t)
     (put-byte-requires t)
-    (path-name-requires t)
-    (put-name-requires t)
+    (put-number-requires t)
     (same_length t)
     (returns-2 t)

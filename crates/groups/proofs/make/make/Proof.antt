@@ -10,20 +10,10 @@ use borrow.Author.Rules.{rules}
 use Rattle.groups.proofs.make.make.Statement.{statement}
 use Rattle.groups.proofs.make.make.Tie as tie
 
--- the places on the way
-abbrev start : tie.After-enum-told → tie.Start
-start c = c.before.before.before.before.before
-
-abbrev depth-at : tie.After-pack → tie.After-depth
-depth-at c = c.before
-
-abbrev told_at : tie.After-pack → tie.After-enum-told
-told_at c = (depth-at c).before.before
-
 -- the call was accepted
 accepted : (c : tie.After-enum-told) →
-    let a = (start c).args in
-    verdict (view a.tree.now) (make a.user a.parent.0 a.new.0 a.name.now) ≡ Done
+    let a = c.before.before.before.before.args in
+    verdict (view a.tree.now) (make a.user a.parent.0 a.new.0) ≡ Done
 accepted c = sym c.before.before.vet-make.ensures ∙ c.enum_told.given.1
 
 vet-make-requires : tie.Need-vet-make-requires
@@ -39,37 +29,33 @@ enum-told-2 c = search rules
 returns : tie.Need-returns
 returns c =
     let v = c.before.before in
-    call_stays _ v.before.before.before.requires _ _ _ v.vet-make.ensures c.enum-told2.given.1
+    call_stays _ v.before.before.requires _ _ _ v.vet-make.ensures c.enum-told2.given.1
 
 depth-requires : tie.Need-depth-requires
-depth-requires c κs = (makeable _ _ _ _ _ (accepted c.before)).above
+depth-requires c κs = (makeable _ _ _ _ (accepted c.before)).above
 
 add-deep : tie.Need-overflow-add-deep
-add-deep c = omega (arith, c.depth.ensures, (makeable _ _ _ _ _ (accepted c.before.before)).shallow)
-
-pack-requires : tie.Need-pack-requires
-pack-requires c κs = (makeable _ _ _ _ _ (accepted c.before.before)).good
+add-deep c = omega (arith, c.depth.ensures, (makeable _ _ _ _ (accepted c.before.before)).shallow)
 
 adjust-requires : tie.Need-adjust-requires
 adjust-requires c κs =
-    let d = told_at c.before in
-    make-countable _ (start d).pre _ _ _ _ (accepted d) _ (omega arith)
+    let d = c.before.before.before in
+    make-countable _ d.before.before.before.before.requires _ _ _ (accepted d) _ (omega arith)
 
 set-group-requires : tie.Need-set-group-requires
 set-group-requires c κs =
-    let d = told_at c.before.before.before in
+    let d = c.before.before.before.before.before in
     let j = c.before.adjust.ensures in
-    (record { long = j.long; low = (makeable _ _ _ _ _ (accepted d)).low }, new-blank _ (start d).pre _ _ _ _ (accepted d) _ j)
+    (record { long = j.long; low = (makeable _ _ _ _ (accepted d)).low }, new-blank _ d.before.before.before.before.requires _ _ _ (accepted d) _ j)
 
 -- done
 returns-2 : tie.Need-returns-2
 returns-2 c =
     let j = c.before.before in
-    let p = j.before.before in
-    let d = told_at p in
-    call-done _ (start d).pre _ (accepted d) _ _ _
-    (applied-make _ (start d).pre _ _ _ _ (accepted d) _ _ _ _ (depth-at p).depth.ensures p.pack.ensures j.adjust.ensures c.set-group.ensures)
-    (sym (accepted d))
+    let d = j.before.before.before.before in
+    let s = d.before.before.before.before in
+    call-done _ s.requires _ (accepted d) _ _ _
+    (applied-make _ s.requires _ _ _ (accepted d) _ _ _ j.before.before.depth.ensures j.adjust.ensures c.set-group.ensures) (sym (accepted d))
 
 pub make_spec : {M : Type 1} → statement M
 make_spec =
@@ -81,7 +67,6 @@ make_spec =
     returns
     depth-requires
     add-deep
-    pack-requires
     adjust-requires
     set-group-requires
     returns-2)

@@ -18,14 +18,11 @@ start c = c.before.before.before.before
 abbrev told_at : tie.After-parent → tie.After-enum-told
 told_at c = c.before.before
 
-abbrev name-at : tie.After-count → tie.After-name
-name-at c = c.before.before
-
 abbrev depth-at : tie.After-count → tie.After-depth
-depth-at c = c.before.before.before.before
+depth-at c = c.before.before
 
 abbrev parent-at : tie.After-count → tie.After-parent
-parent-at c = c.before.before.before.before.before.before
+parent-at c = c.before.before.before.before
 
 abbrev count_at : tie.After-own2 → tie.After-count
 count_at c = c.before.before.before.before
@@ -57,11 +54,8 @@ parent-requires c κs = group-low _ (start c.before).requires _ _ (accepted c.be
 depth-requires : tie.Need-depth-requires
 depth-requires c κs = let d = told_at c.before in group-low _ (start d).pre _ _ (accepted d)
 
-name-requires : tie.Need-name-requires
-name-requires c κs = let d = told_at c.before.before.before in group-low _ (start d).pre _ _ (accepted d)
-
 count-requires : tie.Need-count-requires
-count-requires c κs = let d = told_at c.before.before.before.before.before in group-kept _ (start d).pre _ _ (accepted d)
+count-requires c κs = let d = told_at c.before.before.before in group-kept _ (start d).pre _ _ (accepted d)
 
 own-requires : tie.Need-own-requires
 own-requires c κs =
@@ -149,7 +143,7 @@ returns-3 c =
     call-done _ k _ (accepted d) _ _ _
     (applied-left _ k _ _ (accepted d) _ _ _ _ _ _ p.parent.ensures o.before.before.own.ensures o.own2.ensures
     j.adjust.ensures q.before.before.set_own.ensures q.clear-group.ensures _ n.count.ensures i.before.before.if1.false
-    _ _ _ _ (depth-at n).depth.ensures (name-at n).name.ensures i.set-removed.ensures c.adjust2.ensures)
+    _ _ _ (depth-at n).depth.ensures i.set-removed.ensures c.adjust2.ensures)
     (sym (accepted d))
 
 pub remove-spec : {M : Type 1} → statement M
@@ -162,7 +156,6 @@ remove-spec =
     returns
     parent-requires
     depth-requires
-    name-requires
     count-requires
     own-requires
     own-requires-2

@@ -5,7 +5,7 @@ use lib.ListN.{get_or}
 use Rattle.model.specs.Tree.{Place, is_live}
 use Rattle.model.specs.Zombies.{is_zombie}
 use Rattle.tree.proofs.LayoutLaws.{taken-test}
-use Rattle.tree.proofs.AgreeLaws.{place_of, ended-in}
+use Rattle.tree.proofs.RowLaws.{place_of, ended-in}
 use borrow.Author.Rules.{rules}
 use Rattle.tree.proofs.process.is_taken.Statement.{statement}
 use Rattle.tree.proofs.process.is_taken.Tie as tie

@@ -3,7 +3,7 @@ use mathlib.Core.Path.{◌∙◌, ap, sym}
 use lib.ListN.{get_or}
 use Rattle.model.specs.Zombies.{is_zombie}
 use Rattle.tree.proofs.LayoutLaws.{zombie-test}
-use Rattle.tree.proofs.AgreeLaws.{ended-in}
+use Rattle.tree.proofs.RowLaws.{ended-in}
 use borrow.Author.Rules.{rules}
 use Rattle.tree.proofs.process.is_zombie.Statement.{statement}
 use Rattle.tree.proofs.process.is_zombie.Tie as tie

@@ -3,7 +3,7 @@ use native.Mathlib.Omega.{arith}
 use mathlib.Core.Path.{◌∙◌, ap, sym}
 use Rattle.model.specs.Tree.{group_of}
 use Rattle.tree.proofs.LayoutLaws.{zombie-not, zombie-at}
-use Rattle.tree.proofs.AgreeLaws.{ended-in}
+use Rattle.tree.proofs.RowLaws.{ended-in}
 use borrow.Author.Rules.{rules}
 use Rattle.tree.proofs.process.zombie_group.Statement.{statement}
 use Rattle.tree.proofs.process.zombie_group.Tie as tie

@@ -1,5 +1,7 @@
 -- `tree::removed::removed_parent` meets its contract. Assumes nothing.
-use Rattle.tree.proofs.LayoutLaws.{left-parent}
+use mathlib.Core.Path.{ap, sym}
+use Rattle.model.specs.Zombies.{remnant_parent}
+use Rattle.tree.proofs.LayoutLaws.{remnant-none, remnant-is}
 use borrow.Author.Rules.{rules}
 use Rattle.tree.proofs.removed.removed_parent.Statement.{statement}
 use Rattle.tree.proofs.removed.removed_parent.Tie as tie
@@ -13,14 +15,22 @@ add-i c = search rules
 add-i-2 : tie.Need-overflow-add-i-2
 add-i-2 c = search rules
 
-mul-t4 : tie.Need-overflow-mul-t4
-mul-t4 c = search rules
+mul_left : tie.Need-overflow-mul-left
+mul_left c = search rules
 
-element-copy-out-t9 : tie.Need-element-copy-out-t9
-element-copy-out-t9 c = search rules
+element-copy-out-left : tie.Need-element-copy-out-left
+element-copy-out-left c = search rules
 
 returns : tie.Need-returns
-returns c = left-parent _ _
+returns c = ap remnant_parent (sym (remnant-none _ c.if1.true))
+
+sub-t10 : tie.Need-overflow-sub-t10
+sub-t10 c = search rules
+
+returns-2 : tie.Need-returns-2
+returns-2 c = ap remnant_parent (sym (remnant-is _ c.if1.false))
 
 pub removed-parent-spec : {M : Type 1} → statement M
-removed-parent-spec = tie.close (tie.spec mul-i add-i add-i-2 mul-t4 element-copy-out-t9 returns)
+removed-parent-spec =
+    tie.close
+    (tie.spec mul-i add-i add-i-2 mul_left element-copy-out-left returns sub-t10 returns-2)

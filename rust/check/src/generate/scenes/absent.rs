@@ -41,14 +41,14 @@ impl Generator {
 
         let parent = self.live_group(sketch);
         let user = self.writer(sketch, parent);
-        self.make(sketch, user, parent, group);
+        self.plan(sketch, Call::Make { user, parent, group });
         if sketch.is_on_zombies_path(group) {
             let is_its = |zombie: &u64| sketch.path(*zombie).contains(&group);
             let zombies: Vec<u64> = sketch.zombies().filter(is_its).collect();
             for process in zombies {
                 self.plan(sketch, Call::Collect { process });
             }
-            self.make(sketch, user, parent, group);
+            self.plan(sketch, Call::Make { user, parent, group });
         }
         self.reach(sketch, group, ALL);
         self.plan(sketch, Call::Release { group, pages: 1 });
@@ -128,10 +128,9 @@ fn calls_on(group: u64, process: u64, live: u64) -> Vec<Call> {
     let user = 0;
     let line = |text: &str| text.as_bytes().to_vec();
     vec![
-        Call::numbered(user, group, live),
-        Call::numbered(user, group, group),
-        Call::numbered(user, group, LAST_GROUP + 1),
-        Call::Make { user, parent: group, group: live, name: line("") },
+        Call::Make { user, parent: group, group: live },
+        Call::Make { user, parent: group, group },
+        Call::Make { user, parent: group, group: LAST_GROUP + 1 },
         Call::Remove { user, group },
         Call::HandOver { user, group, owner: 7 },
         Call::WriteProcs { user, group, line: process.to_string().into() },
@@ -151,13 +150,6 @@ fn calls_on(group: u64, process: u64, live: u64) -> Vec<Call> {
         Call::WriteSetting { user, group, file: line("io.max"), line: line("8:16 rbps=1 rbps=2") },
         Call::WriteSetting { user, group, file: line("memory"), line: line("1") },
         Call::Read { group, file: line("memory"), room: 0 },
-        Call::Walk { group, path: line("") },
-        Call::Walk { group, path: line("a/") },
-        Call::Walk { group, path: line("a/..") },
-        Call::Walk { group, path: line("a b") },
-        Call::Walk { group, path: vec![b'a'; 32] },
-        Call::Walk { group, path: line(&"/a".repeat(512)[1..]) },
-        Call::Walk { group, path: line(&"/a".repeat(513)[1..]) },
         Call::Release { group, pages: 1 },
         Call::Release { group, pages: 0 },
         Call::Release { group, pages: 1_048_577 },

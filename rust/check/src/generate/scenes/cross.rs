@@ -25,34 +25,7 @@ impl Generator {
                 _ => self.any_group(sketch),
             };
             let user = self.any_user(sketch, parent);
-            let name = self.any_name(sketch, parent, group);
-            self.plan(sketch, Call::Make { user, parent, group, name });
-        }
-        // Dice seldom come to a sibling's name with another cause.
-        let parents = sketch.live_groups().filter(|&up| sketch.children(up).next().is_some());
-        let Some(parent) = self.random.one_of(parents) else { return };
-        let Some(name) = self.taken_name(sketch, parent) else { return };
-        for group in [LAST_GROUP + 1, parent] {
-            let user = self.any_user(sketch, parent);
-            self.plan(sketch, Call::Make { user, parent, group, name: name.clone() });
-        }
-    }
-
-    pub(super) fn cross_walk(&mut self, sketch: &mut Model) {
-        self.furnish(sketch);
-        for _ in 0..CALLS {
-            let (there, path) = self.way(sketch);
-            let group = if self.random.percent(60) { there } else { self.any_group(sketch) };
-            let bad = self.bad_name();
-            let path = match self.random.below(8) {
-                0 => self.drawn_path(path),
-                1 => [path, bad].join(&b'/'),
-                2 => bad,
-                3 => [bad, path].join(&b'/'),
-                4 => self.odd_path(sketch, path),
-                _ => path,
-            };
-            self.plan(sketch, Call::Walk { group, path });
+            self.plan(sketch, Call::Make { user, parent, group });
         }
     }
 
@@ -198,17 +171,6 @@ impl Generator {
             _ => None,
         };
         of_kind.unwrap_or_else(|| self.live_group(sketch))
-    }
-
-    /// Free, taken, bad for each cause, or any that is good.
-    fn any_name(&mut self, sketch: &Model, parent: u64, group: u64) -> Vec<u8> {
-        let taken = self.taken_name(sketch, parent);
-        match (self.random.below(8), taken) {
-            (0..3, _) => self.bad_name(),
-            (3, Some(taken)) => taken,
-            (4, _) => self.good_name(sketch, group),
-            _ => self.free_name(sketch, parent, group),
-        }
     }
 
     /// Out of range, free, a zombie, below the root, or any that is live.

@@ -10,8 +10,7 @@ use crate::model::{Device, Held, IO, KEYS, Model, listed_devices};
 
 impl Generator {
     /// Six devices, one after the other, in a group that holds four: each with no pair or "max"
-    /// alone, then with a figure; one more with a figure out of range. Devices that are held are
-    /// written again. One goes, and there is
+    /// alone, then with a figure. Devices that are held are written again. One goes, and there is
     /// room for another. What is shown is written back; then io may leave.
     pub(super) fn device_room(&mut self, sketch: &mut Model) {
         let Some(group) = self.io_group(sketch) else { return };
@@ -24,7 +23,6 @@ impl Generator {
             let (key, figure) = (self.random.pick(&KEYS), self.random.within(1, 9));
             self.set_device(sketch, group, format!("{device} {key}={figure}"));
         }
-        self.set_device(sketch, group, format!("{} riops=0", devices[5]));
         for _ in 0..3 {
             let Some(Held { device, .. }) = self.held_device(sketch, group) else { return };
             let (key, figure) = (self.random.pick(&KEYS), self.random.pick(&["max", "1", "77"]));

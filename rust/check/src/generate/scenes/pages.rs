@@ -51,7 +51,7 @@ impl Generator {
             self.lift(sketch, up);
         }
         let parent = sketch.group(group).map_or(0, |kept| kept.parent);
-        if self.random.percent(80) {
+        if self.random.percent(60) {
             self.migrate(sketch, 0, process, 0);
             self.plan(sketch, Call::Remove { user: 0, group });
         }

@@ -76,6 +76,6 @@ impl Generator {
         let own = sketch.group(parent).map_or(0, |kept| kept.own_pages);
         self.plan(sketch, Call::Release { group: parent, pages: own + 1 });
         self.plan(sketch, Call::Release { group: parent, pages: own });
-        self.make(sketch, 0, parent, group);
+        self.plan(sketch, Call::Make { user: 0, parent, group });
     }
 }

@@ -66,7 +66,7 @@ impl Generator {
         if self.random.percent(50) {
             let parent = self.live_group(sketch);
             let user = self.writer(sketch, parent);
-            self.make(sketch, user, parent, group);
+            self.plan(sketch, Call::Make { user, parent, group });
         }
         if self.random.percent(20) {
             let call = self.on_group(sketch, group);
@@ -81,8 +81,7 @@ impl Generator {
         match self.random.below(8) {
             0 => {
                 let new = self.free_group(sketch).unwrap_or(LAST_GROUP);
-                let name = self.good_name(sketch, new);
-                Call::Make { user, parent: group, group: new, name }
+                Call::Make { user, parent: group, group: new }
             }
             1 => Call::Remove { user, group },
             2 => Call::HandOver { user, group, owner: self.user() },
@@ -179,9 +178,7 @@ impl Generator {
             self.plan(sketch, Call::Collect { process });
         }
         for parent in [0, LAST_PROCESS + 1] {
-            for process in [process, 0, LAST_PROCESS + 1] {
-                self.plan(sketch, Call::Fork { parent, process });
-            }
+            self.plan(sketch, Call::Fork { parent, process });
         }
         for _ in 0..2 {
             self.plan(sketch, Call::Admit { process, user });

@@ -1,4 +1,0 @@
-pub mod StripLaws
-pub mod WordLaws
-pub mod PackLaws
-pub mod FormLaws
