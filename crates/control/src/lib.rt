@@ -1,4 +1,6 @@
 // The files that a group's settings and its control set are written through: cgroup.subtree_control, and the settings.
+#![tactic(auto)]
+
 mod flags; // a flag for each controller, and the tests of a control line
 mod held; // a controller that leaves, in a child's set
 mod reset; // settings of controllers that leave, back at their defaults

@@ -1,1 +1,2 @@
 // The demands of the code: specs/ and proofs/ only.
+#![tactic(auto)]

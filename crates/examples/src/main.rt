@@ -1,5 +1,7 @@
 // The evenings that document 01 works through, what is right where it lists a slip, and those of orders: every call on a line, with
 // its reply after the colon. Nothing is judged here; what is printed is held to `stdout`, which is to be read beside the paper.
+#![tactic(auto)]
+
 mod say; // words and numbers on standard output
 mod tree_calls; // groups, processes and pages
 mod line_calls; // lines written to files

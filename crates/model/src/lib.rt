@@ -1,5 +1,6 @@
 // The public types: what the definitions in specs/ speak of, and what every call takes and answers.
 // There is no code here. The rules are in specs/, why the demands follow from them in proofs/.
+#![tactic(auto)]
 
 // A group's number. Any number can be written; the calls refuse those out of range.
 #[derive(Drop)]

@@ -1,5 +1,7 @@
 // The calls that change where processes stand or ended. Each makes all its checks first, walks up at most two chains, and leaves the very
 // same words where it refuses. No call moves pages.
+#![tactic(auto)]
+
 pub mod birth; // a process admitted to the root, or forked beside its parent
 pub mod exit; // a process that ends, and is a zombie
 pub mod collect; // a zombie that is collected

@@ -1,6 +1,8 @@
 // The tree in words, lent to every call and changed in place. `row` says where a word is, and `group`, `setting`, `device`,
 // `sum` and `process` read and store; `chain` and `counter` walk up the hierarchy. What the calls promise of the tree is stated by `view` in
 // specs/, and `Kept` is the invariant.
+#![tactic(auto)]
+
 pub mod layout; // the sizes, and the type of a tree
 mod row; // the places in a row, and the store of a word
 pub mod group; // what is kept of a group
