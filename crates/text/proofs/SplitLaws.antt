@@ -7,14 +7,11 @@ use native.Mathlib.Numerals.{unary_clauses}
 use native.Mathlib.Omega.{arith}
 use lib.ListN.{length, take, drop}
 use lib.Seq.{length-take-le, take-take, take-nil, drop-nil}
-use types.Run.{OneOf, miss}
-use denote.Enum.Declared.{tag_of}
 use Rattle.model.specs.Text.{words, line_words}
 use Rattle.text.specs.Line.{spanned, Inside, LineEnd, NextWord, OneWord, SplitAs, sole_word}
 use Rattle.text.specs.declared.line.Span.{Span}
 use Rattle.text.specs.declared.line.Words.{Words}
 use Rattle.text.specs.declared.line.Words.TheVariants.{Empty, One, Two, More}
-use Rattle.text.specs.contracts.line.Words.{the_type}
 use Rattle.text.proofs.LineLaws.{line-end-inside}
 use Rattle.text.proofs.WordLaws.{words-next, words-none}
 
@@ -92,11 +89,11 @@ module _ (line : List ℕ) (n : ℕ) (e : LineEnd line n) where
 pub one_word : (line : List ℕ) (p : Span) → OneWord line p → spanned line p ≡ sole_word (line_words line)
 one_word line p o = rw o.words_are
 
--- no bytes where the words are of another kind, by the number of their variant
-pub other-words : (line : List ℕ) (r : Words) → SplitAs line r → OneOf (0 ∷ 2 ∷ 3 ∷ []) (tag_of the_type r)
+-- no bytes where the words are of another kind
+pub other-words : (line : List ℕ) (r : Words) → SplitAs line r → ((p : Span) → r ≡ One p → ⊥)
     → [] ≡ sole_word (line_words line)
 other-words line Empty s k = rw s
-other-words line (One p) s k = absurd (miss (0 ∷ 2 ∷ 3 ∷ []) 1 tt k)
+other-words line (One p) s k = absurd (k p refl)
 other-words line (Two p q) s k = rw s.words_are
 other-words line More s k = go (line_words line) s
   where
