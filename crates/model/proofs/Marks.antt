@@ -9,7 +9,7 @@ use mathlib.Core.Option.{Option, none, some}
 use mathlib.Core.Path.{◌≡◌, refl, ap, ap₂, sym, ◌∙◌, subst}
 use Rattle.model.specs.Functions.{upd, known}
 use Rattle.model.specs.Checks.{Pass, answer_number}
-use Rattle.model.specs.Tree.{Tree, Core, cores, places}
+use Rattle.model.specs.Tree.{Tree, Core, cores}
 use Rattle.model.specs.Hierarchy.{usage}
 use Rattle.model.specs.Text.{bytes, line_words, one_word}
 use Rattle.model.specs.Figures.{limit_word}
