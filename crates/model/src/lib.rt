@@ -3,15 +3,15 @@
 #![tactic(auto)]
 
 // A group's number. Any number can be written; the calls refuse those out of range.
-#[derive(Drop)]
+#[derive(Clone, Copy)]
 pub struct GroupId(pub u64);
 
 // A process's number. A type of its own, so that it cannot change places with a group's.
-#[derive(Drop)]
+#[derive(Clone, Copy)]
 pub struct ProcessId(pub u64);
 
 // What a limit counts: the pages or the live processes inside a group.
-#[derive(Drop)]
+#[derive(Clone, Copy)]
 pub enum Resource {
     Pages,
     Processes,
