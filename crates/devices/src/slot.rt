@@ -8,7 +8,7 @@ use super::limit::limit_word;
 use model::{Pair, Pairs};
 
 // The device is kept as its number plus one, 0 where the slot is free.
-#[derive(Drop)]
+#[derive(Clone, Copy)]
 pub struct Slot {
     pub device: u64,
     pub rbps: u64,

@@ -8,7 +8,7 @@ ghost use Rattle.devices.specs.Slots.{no_slots, stepped, slots_of, passed, witho
 use super::slot::{Slot, changed, free, is_all_max};
 use model::Pairs;
 
-#[derive(Drop)]
+#[derive(Clone, Copy)]
 pub struct Slots {
     pub a: Slot,
     pub b: Slot,

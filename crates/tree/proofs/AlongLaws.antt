@@ -1,6 +1,6 @@
 -- Running sums adjusted along a chain that is handed about: the chain is the way up from its bottom group, so that the walk along
 -- it goes on as the walk up the parents does; and the walk that ends at a group of it. Assumes nothing.
-use Prim.Native.Nat.{ℕ, ◌+◌, ◌-◌, ◌≤◌, ◌<◌}
+use Prim.Native.Nat.{ℕ, ◌+◌, ◌≤◌, ◌<◌}
 use native.Mathlib.Omega.{arith}
 use mathlib.Core.Bool.{true}
 use mathlib.Core.List.{List}

@@ -9,7 +9,7 @@ use super::row::{CHILDREN, MEMBERS, PAGE_SUM, PROCESS_SUM, ZOMBIES, set_word};
 use model::{GroupId, Resource};
 
 // What is counted: more than limits count, so not a resource.
-#[derive(Drop)]
+#[derive(Clone, Copy)]
 pub enum Counter {
     // what a limit counts: inside the group
     Of(Resource),
