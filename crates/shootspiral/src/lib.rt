@@ -1,5 +1,5 @@
-// The C interface: one exported function per call, over numbers, byte slices and a tree that the caller owns. It has no rules of
-// its own. Each answers document 01's number, 0 for success. include/shootspiral.h declares them.
+// The C interface: one function per call, over numbers, byte slices and a tree that the caller owns. It has no rules of its own.
+// Each answers document 01's number, 0 for success. `shootspiral_c` exports them, and include/shootspiral.h declares them.
 #![tactic(auto)]
 
 pub mod number; // answers as numbers

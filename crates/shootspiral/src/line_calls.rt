@@ -15,16 +15,14 @@ use processes::migration::write_procs;
 use text::line::line_end;
 use tree::layout::Tree;
 
-#[unsafe(no_mangle)]
-pub extern "C" fn ss_write_procs(tree: &mut Tree, user: u32, group: u64, line: &[u8]) -> u32
+pub fn ss_write_procs(tree: &mut Tree, user: u32, group: u64, line: &[u8]) -> u32
     requires { Kept tree.old }
     ensures { Answered tree.old tree.new (write_procs user group line.now) result }
 {
     answer_number(write_procs(tree, user, GroupId(group), line))
 }
 
-#[unsafe(no_mangle)]
-pub extern "C" fn ss_write_subtree_control(
+pub fn ss_write_subtree_control(
     tree: &mut Tree,
     user: u32,
     group: u64,
@@ -36,8 +34,7 @@ pub extern "C" fn ss_write_subtree_control(
     answer_number(write_subtree_control(tree, user, GroupId(group), line))
 }
 
-#[unsafe(no_mangle)]
-pub extern "C" fn ss_write_setting(
+pub fn ss_write_setting(
     tree: &mut Tree,
     user: u32,
     group: u64,
@@ -51,8 +48,7 @@ pub extern "C" fn ss_write_setting(
 }
 
 // Where the first word is that a control line may not contain, and its length; the line's end and 0 if there is none.
-#[unsafe(no_mangle)]
-pub extern "C" fn ss_first_bad_word(line: &[u8], told: &mut [u64; 2])
+pub fn ss_first_bad_word(line: &[u8], told: &mut [u64; 2])
     ensures { told.new ≡ part_words (first_bad_word line.now) }
 {
     let n = line_end(line);

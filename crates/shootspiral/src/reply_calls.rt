@@ -11,8 +11,7 @@ use files::reader::{membership, read};
 use model::{GroupId, ProcessId};
 use tree::layout::Tree;
 
-#[unsafe(no_mangle)]
-pub extern "C" fn ss_read(
+pub fn ss_read(
     tree: &Tree,
     group: u64,
     file: &[u8],
@@ -29,8 +28,7 @@ pub extern "C" fn ss_read(
     read_number(a)
 }
 
-#[unsafe(no_mangle)]
-pub extern "C" fn ss_membership(
+pub fn ss_membership(
     tree: &Tree,
     process: u64,
     reply: &mut [u8],

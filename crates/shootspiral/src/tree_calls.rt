@@ -21,55 +21,48 @@ use tree::fresh::fresh;
 use tree::layout::{Tree, WORDS};
 
 // A fresh tree of so many pages, in memory of the caller's.
-#[unsafe(no_mangle)]
-pub extern "C" fn ss_fresh(tree: &mut Tree, machine_pages: u64)
+pub fn ss_fresh(tree: &mut Tree, machine_pages: u64)
     ensures { Fresh machine_pages tree.new }
 {
     *tree = fresh(machine_pages);
 }
 
 // How many words a tree has.
-#[unsafe(no_mangle)]
-pub extern "C" fn ss_tree_words() -> u64
+pub fn ss_tree_words() -> u64
     ensures { result ≡ tree_words }
 {
     WORDS as u64
 }
 
-#[unsafe(no_mangle)]
-pub extern "C" fn ss_make(tree: &mut Tree, user: u32, parent: u64, group: u64) -> u32
+pub fn ss_make(tree: &mut Tree, user: u32, parent: u64, group: u64) -> u32
     requires { Kept tree.old }
     ensures { Answered tree.old tree.new (make user parent group) result }
 {
     answer_number(make(tree, user, GroupId(parent), GroupId(group)))
 }
 
-#[unsafe(no_mangle)]
-pub extern "C" fn ss_remove(tree: &mut Tree, user: u32, group: u64) -> u32
+pub fn ss_remove(tree: &mut Tree, user: u32, group: u64) -> u32
     requires { Kept tree.old }
     ensures { Answered tree.old tree.new (remove user group) result }
 {
     answer_number(remove(tree, user, GroupId(group)))
 }
 
-#[unsafe(no_mangle)]
-pub extern "C" fn ss_hand_over(tree: &mut Tree, user: u32, group: u64, owner: u32) -> u32
+pub fn ss_hand_over(tree: &mut Tree, user: u32, group: u64, owner: u32) -> u32
     requires { Kept tree.old }
     ensures { Answered tree.old tree.new (hand_over user group owner) result }
 {
     answer_number(hand_over(tree, user, GroupId(group), owner))
 }
 
-#[unsafe(no_mangle)]
-pub extern "C" fn ss_admit(tree: &mut Tree, process: u64, user: u32) -> u32
+pub fn ss_admit(tree: &mut Tree, process: u64, user: u32) -> u32
     requires { Kept tree.old }
     ensures { Answered tree.old tree.new (admit process user) result }
 {
     answer_number(admit(tree, ProcessId(process), user))
 }
 
-#[unsafe(no_mangle)]
-pub extern "C" fn ss_fork(tree: &mut Tree, parent: u64, process: u64, told: &mut [u64; 2]) -> u32
+pub fn ss_fork(tree: &mut Tree, parent: u64, process: u64, told: &mut [u64; 2]) -> u32
     requires { Kept tree.old }
     ensures answered { Answered tree.old tree.new (fork parent process) result }
     ensures told_after { told.new ≡ room_words (reply (view tree.old) (fork parent process)) }
@@ -79,24 +72,21 @@ pub extern "C" fn ss_fork(tree: &mut Tree, parent: u64, process: u64, told: &mut
     room_number(Resource::Processes, a)
 }
 
-#[unsafe(no_mangle)]
-pub extern "C" fn ss_exit(tree: &mut Tree, process: u64) -> u32
+pub fn ss_exit(tree: &mut Tree, process: u64) -> u32
     requires { Kept tree.old }
     ensures { Answered tree.old tree.new (exit process) result }
 {
     answer_number(exit(tree, ProcessId(process)))
 }
 
-#[unsafe(no_mangle)]
-pub extern "C" fn ss_collect(tree: &mut Tree, process: u64) -> u32
+pub fn ss_collect(tree: &mut Tree, process: u64) -> u32
     requires { Kept tree.old }
     ensures { Answered tree.old tree.new (collect process) result }
 {
     answer_number(collect(tree, ProcessId(process)))
 }
 
-#[unsafe(no_mangle)]
-pub extern "C" fn ss_charge(tree: &mut Tree, process: u64, pages: u64, told: &mut [u64; 2]) -> u32
+pub fn ss_charge(tree: &mut Tree, process: u64, pages: u64, told: &mut [u64; 2]) -> u32
     requires { Kept tree.old }
     ensures answered { Answered tree.old tree.new (charge process pages) result }
     ensures told_after { told.new ≡ room_words (reply (view tree.old) (charge process pages)) }
@@ -106,8 +96,7 @@ pub extern "C" fn ss_charge(tree: &mut Tree, process: u64, pages: u64, told: &mu
     room_number(Resource::Pages, a)
 }
 
-#[unsafe(no_mangle)]
-pub extern "C" fn ss_release(tree: &mut Tree, group: u64, pages: u64) -> u32
+pub fn ss_release(tree: &mut Tree, group: u64, pages: u64) -> u32
     requires { Kept tree.old }
     ensures { Answered tree.old tree.new (release group pages) result }
 {

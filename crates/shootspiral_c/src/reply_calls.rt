@@ -1,0 +1,41 @@
+// Texts read into a reply buffer of the caller's, exported.
+ghost use Rattle.model.specs.Calls.{read, membership};
+ghost use Rattle.model.specs.Replies.{reply as replyOf};
+ghost use Rattle.tree.specs.Layout.{view};
+ghost use Rattle.tree.specs.Kept.{Kept};
+ghost use Rattle.tree.specs.Calling.{Answered};
+ghost use Rattle.shootspiral.specs.Interface.{Told};
+
+use shootspiral::reply_calls;
+use tree::layout::Tree;
+
+#[unsafe(no_mangle)]
+pub extern "C" fn ss_read(
+    tree: &Tree,
+    group: u64,
+    file: &[u8],
+    reply: &mut [u8],
+    told: &mut [u64; 1],
+) -> u32
+    requires { Kept tree.now }
+    ensures answered { Answered tree.now tree.now (read group file.now reply.old) result }
+    ensures told { Told (replyOf (view tree.now) (read group file.now reply.old))
+        told.new reply.new }
+{
+    reply_calls::ss_read(tree, group, file, reply, told)
+}
+
+#[unsafe(no_mangle)]
+pub extern "C" fn ss_membership(
+    tree: &Tree,
+    process: u64,
+    reply: &mut [u8],
+    told: &mut [u64; 1],
+) -> u32
+    requires { Kept tree.now }
+    ensures answered { Answered tree.now tree.now (membership process reply.old) result }
+    ensures told { Told (replyOf (view tree.now) (membership process reply.old))
+        told.new reply.new }
+{
+    reply_calls::ss_membership(tree, process, reply, told)
+}
