@@ -1,4 +1,5 @@
 // Evenings about settings. User 0 writes them.
+ghost use Rattle.std.specs.Prelude.{IfOk};
 ghost use Rattle.tree.specs.Kept.{Kept};
 
 use super::line_calls::{write_figure, write_procs, write_setting, write_subtree_control};
@@ -6,79 +7,80 @@ use super::often::{read_memory_max, write_memory_max};
 use super::reply_calls::read;
 use super::say::case;
 use super::tree_calls::{admit, charge, fresh_tree, make};
+use std::io;
 use tree::layout::Tree;
 
 // Group 1 under the root, with cpu, memory and pids on in it.
-fn one_group() -> Tree
-    ensures { Kept result }
+fn one_group(rt: &impl Print) -> io::Result<Tree>
+    ensures { IfOk result (λ t. Kept t) }
 {
-    let mut tree = fresh_tree(1024);
-    make(&mut tree, 0, 0, 1);
-    write_subtree_control(&mut tree, 0, 0, b"+cpu +memory +pids");
-    tree
+    let mut tree = fresh_tree(rt, 1024)?;
+    make(rt, &mut tree, 0, 0, 1)?;
+    write_subtree_control(rt, &mut tree, 0, 0, b"+cpu +memory +pids")?;
+    Ok(tree)
 }
 
 // memory.max of group 1, written and read.
-fn show_memory_max(tree: &mut Tree, bytes: u64)
+fn show_memory_max(rt: &impl Print, tree: &mut Tree, bytes: u64) -> io::Result<()>
     requires { Kept tree.old }
     ensures { Kept tree.new }
 {
-    write_memory_max(tree, 1, bytes);
-    read_memory_max(tree, 1);
+    write_memory_max(rt, tree, 1, bytes)?;
+    read_memory_max(rt, tree, 1)
 }
 
-fn show_no_memory_max(tree: &mut Tree)
+fn show_no_memory_max(rt: &impl Print, tree: &mut Tree) -> io::Result<()>
     requires { Kept tree.old }
     ensures { Kept tree.new }
 {
-    write_setting(tree, 0, 1, b"memory.max", b"max\n");
-    read_memory_max(tree, 1);
+    write_setting(rt, tree, 0, 1, b"memory.max", b"max\n")?;
+    read_memory_max(rt, tree, 1)
 }
 
-pub(crate) fn p6_p7() {
-    let mut tree = one_group();
-    case(6);
-    show_memory_max(&mut tree, 4097);
-    show_memory_max(&mut tree, 0);
-    case(7);
-    show_memory_max(&mut tree, 4503599627370496);
-    show_memory_max(&mut tree, 4503599627370497);
-    show_no_memory_max(&mut tree);
+pub(crate) fn p6_p7(rt: &impl Print) -> io::Result<()> {
+    let mut tree = one_group(rt)?;
+    case(rt, 6)?;
+    show_memory_max(rt, &mut tree, 4097)?;
+    show_memory_max(rt, &mut tree, 0)?;
+    case(rt, 7)?;
+    show_memory_max(rt, &mut tree, 4503599627370496)?;
+    show_memory_max(rt, &mut tree, 4503599627370497)?;
+    show_no_memory_max(rt, &mut tree)
 }
 
-pub(crate) fn odd_bytes() {
-    let mut tree = one_group();
-    admit(&mut tree, 5, 0);
-    write_procs(&mut tree, 0, 1, 5);
-    show_memory_max(&mut tree, 4095);
-    charge(&mut tree, 5, 1);
-    show_memory_max(&mut tree, 4097);
-    charge(&mut tree, 5, 1);
-    charge(&mut tree, 5, 1);
-    show_memory_max(&mut tree, 4503599627370495);
+pub(crate) fn odd_bytes(rt: &impl Print) -> io::Result<()> {
+    let mut tree = one_group(rt)?;
+    admit(rt, &mut tree, 5, 0)?;
+    write_procs(rt, &mut tree, 0, 1, 5)?;
+    show_memory_max(rt, &mut tree, 4095)?;
+    charge(rt, &mut tree, 5, 1)?;
+    show_memory_max(rt, &mut tree, 4097)?;
+    charge(rt, &mut tree, 5, 1)?;
+    charge(rt, &mut tree, 5, 1)?;
+    show_memory_max(rt, &mut tree, 4503599627370495)
 }
 
-fn write_weight(tree: &mut Tree, figure: u64)
+fn write_weight(rt: &impl Print, tree: &mut Tree, figure: u64) -> io::Result<()>
     requires { Kept tree.old }
     ensures { Kept tree.new }
 {
-    write_figure(tree, 1, b"cpu.weight", figure);
+    write_figure(rt, tree, 1, b"cpu.weight", figure)
 }
 
-fn write_two_weights(tree: &mut Tree)
+fn write_two_weights(rt: &impl Print, tree: &mut Tree) -> io::Result<()>
     requires { Kept tree.old }
     ensures { Kept tree.new }
 {
-    write_setting(tree, 0, 1, b"cpu.weight", b"1 2");
+    write_setting(rt, tree, 0, 1, b"cpu.weight", b"1 2")
 }
 
-pub(crate) fn p8() {
-    let mut tree = one_group();
-    write_weight(&mut tree, 1);
-    read(&tree, 1, b"cpu.weight");
-    write_weight(&mut tree, 10000);
-    write_weight(&mut tree, 0);
-    write_weight(&mut tree, 10001);
-    write_two_weights(&mut tree);
-    read(&tree, 1, b"cpu.weight");
+pub(crate) fn p8(rt: &impl Print) -> io::Result<()> {
+    let mut tree = one_group(rt)?;
+    write_weight(rt, &mut tree, 1)?;
+    read(rt, &tree, 1, b"cpu.weight")?;
+    write_weight(rt, &mut tree, 10000)?;
+    write_weight(rt, &mut tree, 0)?;
+    write_weight(rt, &mut tree, 10001)?;
+    write_two_weights(rt, &mut tree)?;
+    read(rt, &tree, 1, b"cpu.weight")
 }
