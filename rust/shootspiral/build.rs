@@ -1,4 +1,4 @@
-//! Finds `libshootspiral.a`, which `rt staticlib shootspiral` writes to `target/staticlib` of the
+//! Finds `libshootspiral.a`, which `scripts/build-library` writes to `target/staticlib` of the
 //! repository. `SHOOTSPIRAL_LIB_DIR` names another folder.
 
 use std::env;
@@ -14,7 +14,7 @@ fn main() {
     println!("cargo:rerun-if-changed={}", archive.display());
     if !archive.exists() {
         println!(
-            "cargo:warning={} is not there: run `rt staticlib shootspiral` in the repository, \
+            "cargo:warning={} is not there: run `scripts/build-library` in the repository, \
              or set SHOOTSPIRAL_LIB_DIR",
             archive.display()
         );
