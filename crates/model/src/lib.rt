@@ -19,14 +19,14 @@ pub enum Resource {
 
 // "A limit is either a figure or no limit at all." A group's limits are in pages and in processes; the quota of cpu.max and a
 // limit as it is written or shown are in the file's own figures.
-#[derive(Drop)]
+#[derive(Clone, Copy)]
 pub enum Limit {
     NoLimit,
     Figure(u64),
 }
 
 // The controllers, in the order in which they are listed.
-#[derive(Drop)]
+#[derive(Clone, Copy)]
 pub enum Controller {
     Cpu,
     Io,
@@ -35,7 +35,7 @@ pub enum Controller {
 }
 
 // What io.max limits of a device, in the order in which it is shown: bytes read and written, and operations, in a second.
-#[derive(Drop)]
+#[derive(Clone, Copy)]
 pub enum Key {
     Rbps,
     Wbps,
@@ -44,13 +44,13 @@ pub enum Key {
 }
 
 // What a line of io.max gives a key.
-#[derive(Drop)]
+#[derive(Clone, Copy)]
 pub enum Pair {
     Absent,
     Given(Limit),
 }
 
-#[derive(Drop)]
+#[derive(Clone, Copy)]
 pub struct Pairs {
     pub rbps: Pair,
     pub wbps: Pair,
@@ -59,7 +59,7 @@ pub struct Pairs {
 }
 
 // The files that set something: cpu.weight, cpu.max, io.max, and the limit of a resource, memory.max or pids.max.
-#[derive(Drop)]
+#[derive(Clone, Copy)]
 pub enum Setting {
     CpuWeight,
     CpuMax,
@@ -68,7 +68,7 @@ pub enum Setting {
 }
 
 // What a line gives a setting, in the file's own figures: memory.max in bytes.
-#[derive(Drop)]
+#[derive(Clone, Copy)]
 pub enum SettingValue {
     Weight(u64),
     // cpu.max with one word, which leaves the period
@@ -81,7 +81,7 @@ pub enum SettingValue {
 
 // The files of a group: cgroup.procs, cgroup.controllers, cgroup.subtree_control, cgroup.events,
 // memory.current or pids.current, and the settings.
-#[derive(Drop)]
+#[derive(Clone, Copy)]
 pub enum File {
     Procs,
     Controllers,
@@ -92,7 +92,7 @@ pub enum File {
 }
 
 // The numbers that the host says no with, by their names in document 01's table.
-#[derive(Drop)]
+#[derive(Clone, Copy)]
 pub enum Errno {
     // 2 group not live, file absent there, controller not available
     Enoent,
@@ -117,14 +117,14 @@ pub enum Errno {
 }
 
 // What a call answers that has nothing to tell but success or a refusal.
-#[derive(Drop)]
+#[derive(Clone, Copy)]
 pub enum Answer {
     Done,
     Refused(Errno),
 }
 
 // What charge and fork answer.
-#[derive(Drop)]
+#[derive(Clone, Copy)]
 pub enum RoomAnswer {
     // the number of groups consulted
     Granted(u64),
@@ -134,7 +134,7 @@ pub enum RoomAnswer {
 }
 
 // What a call answers that writes a text into the caller's buffer.
-#[derive(Drop)]
+#[derive(Clone, Copy)]
 pub enum ReadAnswer {
     // the length of the text
     Text(usize),
@@ -142,7 +142,7 @@ pub enum ReadAnswer {
 }
 
 // The lowest group on two chains, order 3's meeting group, and the number of pairs of entries that the search for it compared.
-#[derive(Drop)]
+#[derive(Clone, Copy)]
 pub struct Meeting {
     pub group: GroupId,
     pub compared: u64,
