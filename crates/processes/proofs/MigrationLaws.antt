@@ -11,7 +11,7 @@ use borrow.Author.Tests.{ltb-true, ltb-false, le-leb, lt-leb, eq-eqb, ne_eqb, no
 use Rattle.model.specs.Functions.{known, or_else}
 use Rattle.model.specs.Sizes.{groups, processes}
 use Rattle.model.specs.Checks.{Check, first, Pass, Says, done, barred, lacking, past, met}
-use Rattle.model.specs.Tree.{Tree, at, is_live, sets, places}
+use Rattle.model.specs.Tree.{Tree, is_live, sets, places}
 use Rattle.model.specs.CommonAncestor.{meeting}
 use Rattle.model.specs.Text.{too_long}
 use Rattle.model.specs.Control.{any_in}

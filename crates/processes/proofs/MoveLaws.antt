@@ -7,7 +7,7 @@ use mathlib.Core.List.{List}
 use mathlib.Core.Path.{◌≡◌, refl, ap, sym, ◌∙◌, subst}
 use lib.Dec.{eqb}
 use Rattle.model.specs.Functions.{pick, weigh}
-use Rattle.model.specs.Sizes.{groups, processes}
+use Rattle.model.specs.Sizes.{groups}
 use Rattle.model.specs.Tree.{Tree, at, lives, places, parents, depths, zombies, at_process}
 use Rattle.model.specs.Hierarchy.{inside}
 use Rattle.model.specs.Rules.{process_group}
