@@ -4,10 +4,10 @@ use Prim.Native.Nat.{ℕ, ◌≤◌, ◌<◌}
 use native.Mathlib.Omega.{arith}
 use mathlib.Core.Bool.{Bool, true, false}
 use mathlib.Core.List.{List, [], ◌∷◌}
+use mathlib.Core.Logic.{◌≢◌}
 use mathlib.Core.Option.{Option, none, some}
 use mathlib.Core.Path.{◌≡◌, refl, ap, sym, ◌∙◌, subst}
 use lib.ListN.{take}
-use types.Run.{OneOf, miss}
 use denote.Enum.Declared.{tag_of}
 use borrow.Author.Tests.{le-leb, lt-leb}
 use Rattle.model.specs.Functions.{pick, passes, mapped, or_else}
@@ -28,7 +28,6 @@ use Rattle.model.specs.declared.File.{File}
 use Rattle.model.specs.declared.Setting.{Setting}
 use Rattle.model.specs.declared.Setting.TheVariants.{IoMax}
 use Rattle.model.specs.contracts.File.{the_type as file_type}
-use Rattle.model.specs.contracts.Setting.{the_type as setting-type}
 use Rattle.model.proofs.CheckLaws.{says_first, first_says}
 use Rattle.model.proofs.ProcessLaws.{taken-out-of-range}
 use Rattle.text.specs.Write.{Appended, Delivers, delivery}
@@ -67,22 +66,9 @@ pub delivers-found : (xs : List ℕ) (g : ℕ) {f h : File} {old new : List ℕ}
     → DeliversFile xs g h old r new → DeliversFile xs g f old r new
 delivers-found xs g {old = old} {new} {r} e d = subst (λ (x : File). DeliversFile xs g x old r new) (sym e) d
 
--- the numbers of the variants: of files but cgroup.procs, of files but the settings, of settings but io.max
-abbrev pub others : List ℕ
-others = 1 ∷ 2 ∷ 3 ∷ 4 ∷ 5 ∷ []
-
-abbrev pub unset : List ℕ
-unset = 0 ∷ 1 ∷ 2 ∷ 3 ∷ 4 ∷ []
-
-abbrev pub other_settings : List ℕ
-other_settings = 0 ∷ 1 ∷ 3 ∷ []
-
-pub short-file : (f : File) → OneOf others (tag_of file_type f) → OneOf unset (tag_of file_type f) → Short f
-short-file f j k =
-    record {
-      not_procs = λ e. miss others 0 tt (subst (λ (x : File). OneOf others (tag_of file_type x)) e j);
-      not_devices = λ e. miss unset 5 tt (subst (λ (x : File). OneOf unset (tag_of file_type x)) e k);
-    }
+-- a file that is neither cgroup.procs nor a setting
+pub short-file : (f : File) → f ≢ File.Procs → ((s : Setting) → f ≢ File.Value s) → Short f
+short-file f j k = record { not_procs = j; not_devices = k Setting.IoMax }
 
 -- the setting that a settings file shows; no other file is asked
 abbrev setting_in : File → Setting
@@ -93,13 +79,9 @@ setting_in File.Events = IoMax
 setting_in (File.Current r) = IoMax
 setting_in (File.Value s) = s
 
-pub short-setting : (s : Setting) → OneOf other_settings (tag_of setting-type s) → Short (File.Value s)
-short-setting s k =
-    record {
-      not_procs = λ e. omega (arith, ap (tag_of file_type) e);
-      not_devices = λ e.
-          miss other_settings 2 tt (subst (λ (x : Setting). OneOf other_settings (tag_of setting-type x)) (ap setting_in e) k);
-    }
+pub short-setting : (s : Setting) → s ≢ IoMax → Short (File.Value s)
+short-setting s n =
+    record { not_procs = λ e. omega (arith, ap (tag_of file_type) e); not_devices = λ e. n (ap setting_in e) }
 
 -- ---- read
 

@@ -1,0 +1,38 @@
+-- `files::device::put_slot` meets its contract: nothing, or the numbers, the limits and a newline. Assumes nothing.
+use Prim.Native.Nat.{◌+◌, ◌≤◌}
+use native.Mathlib.Omega.{arith}
+use lib.ListN.{length}
+use Rattle.model.specs.DeviceLines.{device_text}
+use Rattle.text.proofs.WriteLaws.{appended_then, appended-as, appended_nothing}
+use Rattle.files.specs.Texts.{limits_text}
+use Rattle.files.proofs.DeviceTextLaws.{slot-free, slot-line, length-slot}
+use Rattle.files.proofs.device.put_slot.Goals as goal
+
+-- a free slot
+pub returns-then-x-eq0 : goal.returns-then-x-eq0
+returns-then-x-eq0 c =
+    let a = c.args in
+    appended-as (slot-free a.x c.if-x-eq0.true) (appended_nothing a.out.now a.at)
+
+pub put_device-numbers-requires : goal.put_device-numbers-requires
+put_device-numbers-requires c = omega (arith, (let it : let a = c.args in a.at + (length (device_text c.major_of.result c.minor_of.result) + (length (limits_text a.x) + 1)) ≤ length a.out.now = omega (arith, length-slot c.args.x _ _ c.if-x-eq0.false c.major_of.ensures c.minor_of.ensures, c.requires) in it))
+
+pub put_limits-limits-requires : goal.put_limits-limits-requires
+put_limits-limits-requires c = omega (arith, (let it : let a = c.args in a.at + (length (device_text c.major_of.result c.minor_of.result) + (length (limits_text a.x) + 1)) ≤ length a.out.now = omega (arith, length-slot c.args.x _ _ c.if-x-eq0.false c.major_of.ensures c.minor_of.ensures, c.requires) in it), c.put_device-numbers.ensures.end, c.put_device-numbers.auto.out)
+
+pub put_byte-requires : goal.put_byte-requires
+put_byte-requires c =
+    omega (
+      arith,
+      (let it : let a = c.args in a.at + (length (device_text c.major_of.result c.minor_of.result) + (length (limits_text a.x) + 1)) ≤ length a.out.now = omega (arith, length-slot c.args.x _ _ c.if-x-eq0.false c.major_of.ensures c.minor_of.ensures, c.requires) in it),
+      c.put_device-numbers.ensures.end,
+      c.put_device-numbers.auto.out,
+      c.put_limits-limits.ensures.end,
+      c.put_limits-limits.auto.out,
+    )
+
+pub returns : goal.returns
+returns c =
+    appended-as
+    (slot-line c.args.x _ _ c.if-x-eq0.false c.major_of.ensures c.minor_of.ensures)
+    (appended_then (appended_then c.put_device-numbers.ensures c.put_limits-limits.ensures) c.put_byte.ensures)
