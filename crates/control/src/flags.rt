@@ -14,7 +14,7 @@ use tree::layout::Tree;
 use tree::rule::is_available;
 
 // A flag for each controller.
-#[derive(Drop)]
+#[derive(Clone, Copy)]
 pub struct Flags {
     pub cpu: bool,
     pub io: bool,
@@ -23,7 +23,7 @@ pub struct Flags {
 }
 
 // What is asked of a controller and the wish for it.
-#[derive(Drop)]
+#[derive(Clone, Copy)]
 pub enum Test {
     InSetAfter, // in the set once the wish is granted
     Absent, // wanted, and the group may not have it

@@ -16,7 +16,7 @@ const PLUS: u8 = 43;
 const MINUS: u8 = 45;
 
 // What is asked of a controller: nothing, that it is in the set, that it is not.
-#[derive(Drop)]
+#[derive(Clone, Copy)]
 pub enum Wish {
     Keep,
     Enable,
@@ -24,7 +24,7 @@ pub enum Wish {
 }
 
 // What a line asks of each controller.
-#[derive(Drop)]
+#[derive(Clone, Copy)]
 pub struct Wishes {
     pub cpu: Wish,
     pub io: Wish,
