@@ -18,7 +18,10 @@ pub last_group-group-requires : goal.last_group-group-requires
 last_group-group-requires c = taken-number c.args.t.now c.requires.kept c.args.p.0 c.requires.taken
 
 pub put_place-end-requires : goal.put_place-end-requires
-put_place-end-requires c = (there c.requires c.last_group-group.ensures, omega (arith, c.requires.room, c.put_text-start.ensures.end, c.put_text-start.auto.out))
+put_place-end-requires c = (
+  there c.requires c.last_group-group.ensures,
+  omega (arith, c.requires.room, c.put_text-start.ensures.end, c.put_text-start.auto.out),
+)
 
 pub put_mark-marked-requires : goal.put_mark-marked-requires
 put_mark-marked-requires c = (

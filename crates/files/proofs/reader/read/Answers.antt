@@ -45,7 +45,8 @@ is_present-requires c = live-row _ c.requires _ (sym c.is_live.ensures ∙ c.if-
 pub returns-then-not-is_present : goal.returns-then-not-is_present
 returns-then-not-is_present c =
     let a = c.args in
-    read-not-present a.tree.now a.group.0 a.file.now a.reply.now (omega arith) (sym c.is_live.ensures ∙ c.if-not-is_live.false) _ (found _ c.file_place-place.ensures (omega arith) c.file_at-found.ensures)
+    read-not-present a.tree.now a.group.0 a.file.now a.reply.now (omega arith) (sym c.is_live.ensures ∙ c.if-not-is_live.false) _
+    (found _ c.file_place-place.ensures (omega arith) c.file_at-found.ensures)
     (sym c.is_present.ensures ∙ c.if-not-is_present.true)
 
 pub read_procs-requires : goal.read_procs-requires
@@ -73,11 +74,15 @@ returns-in-Value c =
     (delivers-found a.tree.now a.group.0 c.in-Value.is c.read_setting.ensures)
 
 pub read_other-requires : goal.read_other-requires
-read_other-requires c = (record { kept = c.requires; live = sym c.is_live.ensures ∙ c.if-not-is_live.false }, short-file _ c.in_default.not-Procs c.in_default-found.not-Value)
+read_other-requires c = (
+  record { kept = c.requires; live = sym c.is_live.ensures ∙ c.if-not-is_live.false },
+  short-file _ c.in_default.not-Procs c.in_default-found.not-Value,
+)
 
 -- another file
 pub returns : goal.returns
-returns c = read-delivered _ _ _ _ (omega arith) (sym c.is_live.ensures ∙ c.if-not-is_live.false) _
+returns c =
+    read-delivered _ _ _ _ (omega arith) (sym c.is_live.ensures ∙ c.if-not-is_live.false) _
     (found _ c.file_place-place.ensures (omega arith) c.file_at-found.ensures)
     (sym c.is_present.ensures ∙ c.if-not-is_present.false)
     c.read_other.ensures

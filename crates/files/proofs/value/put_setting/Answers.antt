@@ -40,7 +40,8 @@ put_line-requires c =
     omega (
       arith,
       length-ended (decimal c.weight.result),
-      fits c.requires.0 c.requires.1 (weight-text _ _ c.requires.0.group _ c.weight.ensures ∙ shows c.args.t.now c.args.g.0 (sym c.in-CpuWeight.is)),
+      fits c.requires.0 c.requires.1
+          (weight-text _ _ c.requires.0.group _ c.weight.ensures ∙ shows c.args.t.now c.args.g.0 (sym c.in-CpuWeight.is)),
     )
 
 pub quota-requires : goal.quota-requires
