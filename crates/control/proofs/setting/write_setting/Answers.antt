@@ -24,17 +24,20 @@ store-requires c =
 pub returns-then-not-store : goal.returns-then-not-store
 returns-then-not-store c =
     let a = c.args in
-    setting-full _ c.requires _ _ _ _ _ (given-as a.tree.now a.user a.group.0 a.file.now a.line.now c.in-Value.is c.vet_setting-given.ensures) _ _ c.store.ensures c.if-not-store.true
+    setting-full _ c.requires _ _ _ _ _
+    (given-as a.tree.now a.user a.group.0 a.file.now a.line.now c.in-Value.is c.vet_setting-given.ensures) _ _ c.store.ensures c.if-not-store.true
 
 -- refused by a check before the last
 pub returns-in-Refused : goal.returns-in-Refused
 returns-in-Refused c =
     let a = c.args in
-    let g = verdict-before _ _ _ _ _ _ (given-as a.tree.now a.user a.group.0 a.file.now a.line.now c.in-Refused.is c.vet_setting-given.ensures) in
+    let g = verdict-before _ _ _ _ _ _
+    (given-as a.tree.now a.user a.group.0 a.file.now a.line.now c.in-Refused.is c.vet_setting-given.ensures) in
     call-refused _ c.requires (write_setting a.user a.group.0 a.file.now a.line.now) _ _ _ (sym g) g
 
 -- done
 pub returns-else-not-store : goal.returns-else-not-store
 returns-else-not-store c =
     let a = c.args in
-    setting-done _ c.requires _ _ _ _ _ (given-as a.tree.now a.user a.group.0 a.file.now a.line.now c.in-Value.is c.vet_setting-given.ensures) _ _ c.store.ensures c.if-not-store.false
+    setting-done _ c.requires _ _ _ _ _
+    (given-as a.tree.now a.user a.group.0 a.file.now a.line.now c.in-Value.is c.vet_setting-given.ensures) _ _ c.store.ensures c.if-not-store.false
