@@ -22,25 +22,14 @@ pub fn ss_write_procs(tree: &mut Tree, user: u32, group: u64, line: &[u8]) -> u3
     answer_number(write_procs(tree, user, GroupId(group), line))
 }
 
-pub fn ss_write_subtree_control(
-    tree: &mut Tree,
-    user: u32,
-    group: u64,
-    line: &[u8],
-) -> u32
+pub fn ss_write_subtree_control(tree: &mut Tree, user: u32, group: u64, line: &[u8]) -> u32
     requires { Kept tree.old }
     ensures { Answered tree.old tree.new (write_control user group line.now) result }
 {
     answer_number(write_subtree_control(tree, user, GroupId(group), line))
 }
 
-pub fn ss_write_setting(
-    tree: &mut Tree,
-    user: u32,
-    group: u64,
-    file: &[u8],
-    line: &[u8],
-) -> u32
+pub fn ss_write_setting(tree: &mut Tree, user: u32, group: u64, file: &[u8], line: &[u8]) -> u32
     requires { Kept tree.old }
     ensures { Answered tree.old tree.new (write_setting user group file.now line.now) result }
 {

@@ -1,6 +1,6 @@
 // Texts read into a reply buffer of the caller's.
 ghost use Rattle.model.specs.Calls.{read, membership};
-ghost use Rattle.model.specs.Replies.{reply as replyOf};
+ghost use Rattle.model.specs.Replies.{reply as reply_of};
 ghost use Rattle.tree.specs.Layout.{view};
 ghost use Rattle.tree.specs.Kept.{Kept};
 ghost use Rattle.tree.specs.Calling.{Answered};
@@ -11,16 +11,10 @@ use files::reader::{membership, read};
 use model::{GroupId, ProcessId};
 use tree::layout::Tree;
 
-pub fn ss_read(
-    tree: &Tree,
-    group: u64,
-    file: &[u8],
-    reply: &mut [u8],
-    told: &mut [u64; 1],
-) -> u32
+pub fn ss_read(tree: &Tree, group: u64, file: &[u8], reply: &mut [u8], told: &mut [u64; 1]) -> u32
     requires { Kept tree.now }
     ensures answered { Answered tree.now tree.now (read group file.now reply.old) result }
-    ensures told { Told (replyOf (view tree.now) (read group file.now reply.old))
+    ensures told { Told (reply_of (view tree.now) (read group file.now reply.old))
         told.new reply.new }
 {
     let a = read(tree, GroupId(group), file, reply);
@@ -28,15 +22,10 @@ pub fn ss_read(
     read_number(a)
 }
 
-pub fn ss_membership(
-    tree: &Tree,
-    process: u64,
-    reply: &mut [u8],
-    told: &mut [u64; 1],
-) -> u32
+pub fn ss_membership(tree: &Tree, process: u64, reply: &mut [u8], told: &mut [u64; 1]) -> u32
     requires { Kept tree.now }
     ensures answered { Answered tree.now tree.now (membership process reply.old) result }
-    ensures told { Told (replyOf (view tree.now) (membership process reply.old))
+    ensures told { Told (reply_of (view tree.now) (membership process reply.old))
         told.new reply.new }
 {
     let a = membership(tree, ProcessId(process), reply);

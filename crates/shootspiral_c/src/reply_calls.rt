@@ -1,6 +1,6 @@
 // Texts read into a reply buffer of the caller's, exported.
 ghost use Rattle.model.specs.Calls.{read, membership};
-ghost use Rattle.model.specs.Replies.{reply as replyOf};
+ghost use Rattle.model.specs.Replies.{reply as reply_of};
 ghost use Rattle.tree.specs.Layout.{view};
 ghost use Rattle.tree.specs.Kept.{Kept};
 ghost use Rattle.tree.specs.Calling.{Answered};
@@ -19,7 +19,7 @@ pub extern "C" fn ss_read(
 ) -> u32
     requires { Kept tree.now }
     ensures answered { Answered tree.now tree.now (read group file.now reply.old) result }
-    ensures told { Told (replyOf (view tree.now) (read group file.now reply.old))
+    ensures told { Told (reply_of (view tree.now) (read group file.now reply.old))
         told.new reply.new }
 {
     reply_calls::ss_read(tree, group, file, reply, told)
@@ -34,7 +34,7 @@ pub extern "C" fn ss_membership(
 ) -> u32
     requires { Kept tree.now }
     ensures answered { Answered tree.now tree.now (membership process reply.old) result }
-    ensures told { Told (replyOf (view tree.now) (membership process reply.old))
+    ensures told { Told (reply_of (view tree.now) (membership process reply.old))
         told.new reply.new }
 {
     reply_calls::ss_membership(tree, process, reply, told)
