@@ -9,7 +9,7 @@ mod reply_calls; // texts read into a buffer
 mod often; // calls that evenings make often
 mod charges; // P1 to P5, and the groups consulted
 mod settings; // P6 to P8, and order 2
-mod devices; // io.max of order 1
+mod io_max; // io.max of order 1
 mod hierarchy; // P9, P10, depths, and the last numbers of order 4
 mod zombies; // order 5
 mod texts; // P11, whole replies, and bad words
@@ -67,7 +67,7 @@ fn ordered(rt: &impl Print) -> io::Result<()> {
         rt,
         b"Order 1: io.max, a line for a device; a fifth device is 28",
     )?;
-    devices::of_a_group(rt)?;
+    io_max::of_a_group(rt)?;
     heading(
         rt,
         b"Order 2: memory.max drops odd bytes, and less than a page refuses every charge",

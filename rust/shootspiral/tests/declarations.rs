@@ -1,9 +1,9 @@
-//! `include/shootspiral.h` and `src/sys.rs` declare what `crates/shootspiral` exports: names,
+//! `include/shootspiral.h` and `src/sys.rs` declare what `crates/shootspiral_c` exports: names,
 //! arguments in order, types, results. From each exported function the declarations in C and in Rust
-//! are written out, and compared as text with those of the two files. A number that the function's
-//! body takes for a group or a process, as in `GroupId(parent)`, has to be declared as one. The
-//! promise of each call on a tree, which the theorem of `crates/demands` stands on, is written out
-//! and compared too.
+//! are written out, and compared as text with those of the two files. It calls the function of its
+//! name in `crates/shootspiral` and states the same clauses. A number that the body there takes for
+//! a group or a process, as in `GroupId(parent)`, has to be declared as one. The promise of each
+//! call on a tree, which the theorem of `crates/demands` stands on, is written out and compared too.
 
 use std::fs;
 use std::path::PathBuf;
@@ -18,8 +18,9 @@ fn on_one_line(text: &str) -> String {
     words.join(" ").replace("( ", "(").replace(", )", ")").replace(",)", ")")
 }
 
-/// An exported function: parameters with their types, the result, the clauses of the contract, and
-/// the body.
+/// A function of the interface: parameters with their types, the result, the clauses of the
+/// contract, and the body.
+#[derive(PartialEq)]
 struct Function {
     name: String,
     parameters: Vec<(String, String)>,
@@ -31,8 +32,8 @@ struct Function {
 impl Function {
     /// Reads a function from its name up to its body, and takes the body as it is.
     fn read(written: &str, body: &str) -> Function {
-        let parted = on_one_line(written).replace(" requires {", "\nrequires {");
-        let parted = parted.replace(" ensures {", "\nensures {");
+        let parted = on_one_line(written).replace(" requires ", "\nrequires ");
+        let parted = parted.replace(" ensures ", "\nensures ");
         let mut parts = parted.lines().map(str::to_string);
         let signature = parts.next().expect(written);
         let (name, rest) = signature.split_once('(').expect(written);
@@ -58,18 +59,36 @@ impl Function {
     }
 }
 
-/// All that is exported.
-fn exported() -> Vec<Function> {
+/// The functions of a crate that begin with some text, each from its name on.
+fn functions(folder: &str, begins: &str) -> Vec<Function> {
     let mut all = Vec::new();
-    for entry in fs::read_dir(in_repository("crates/shootspiral/src")).unwrap() {
+    for entry in fs::read_dir(in_repository(folder)).unwrap() {
         let text = fs::read_to_string(entry.unwrap().path()).unwrap();
-        for item in text.split("#[no_mangle]\npub extern \"C\" fn ").skip(1) {
+        for item in text.split(begins).skip(1) {
             let (head, rest) = item.split_once("\n{\n").expect(item);
             let (body, _) = rest.split_once("\n}\n").expect(item);
             all.push(Function::read(head, body));
         }
     }
     all
+}
+
+/// What stands in for an exported function in the library: the function of its name.
+fn library() -> Vec<Function> {
+    let mut all = functions("crates/shootspiral/src", "pub fn ");
+    all.retain(|function| function.name.starts_with("ss_"));
+    all
+}
+
+/// All that is exported, each with the body of the library's function.
+fn exported() -> Vec<Function> {
+    let all = functions("crates/shootspiral_c/src", "#[unsafe(no_mangle)]\npub extern \"C\" fn ");
+    let mut bodies = library();
+    let with_body = |function: Function| {
+        let place = bodies.iter().position(|called| called.name == function.name);
+        Function { body: bodies.swap_remove(place.expect(&function.name)).body, ..function }
+    };
+    all.into_iter().map(with_body).collect()
 }
 
 /// What a number is in C and in Rust: a group or a process where the body makes it one, and a user
@@ -138,6 +157,24 @@ fn assert_same(mut declared: Vec<String>, mut exported: Vec<String>) {
     assert_eq!(declared.len(), exported.len());
 }
 
+/// Each exported function has the signature and the clauses of the library's, and calls it with its
+/// own parameters in order.
+#[test]
+fn an_export_is_the_function_of_its_name() {
+    let exports = functions("crates/shootspiral_c/src", "#[unsafe(no_mangle)]\npub extern \"C\" fn ");
+    assert_eq!(exports.len(), library().len());
+    for export in exports {
+        let names: Vec<&str> = export.parameters.iter().map(|(name, _)| name.as_str()).collect();
+        let call = format!("{}({})", export.name, names.join(", "));
+        let called = export.body.trim().trim_end_matches(';');
+        let (_module, called) = called.split_once("::").expect(called);
+        assert_eq!(called, call);
+        let found = library().into_iter().find(|function| function.name == export.name);
+        let found = found.expect(&export.name);
+        assert!(Function { body: export.body.clone(), ..found } == export, "{}", export.name);
+    }
+}
+
 #[test]
 fn the_header_declares_what_is_exported() {
     let header = fs::read_to_string(in_repository("include/shootspiral.h")).unwrap();
@@ -186,44 +223,50 @@ fn calls() -> Vec<Function> {
 
 /// The constructor of `Call` that an exported function has the name of.
 fn constructor(function: &Function) -> String {
-    if function.name == "ss_write_subtree_control" {
-        return "writeControl".to_string();
+    match function.name.strip_prefix("ss_").expect(&function.name) {
+        "write_subtree_control" => "write_control".to_string(),
+        name => name.to_string(),
     }
-    let mut words = function.name.strip_prefix("ss_").expect(&function.name).split('_');
-    let first = words.next().unwrap().to_string();
-    words.fold(first, |name, word| name + &word[..1].to_uppercase() + &word[1..])
 }
 
 /// The call with its arguments as a contract names it, by the function's name and its parameters.
 fn named(call: &Function) -> String {
     let arguments = call.parameters.iter().filter(|(name, _)| name != "tree" && name != "told");
     let written = arguments.map(|(name, kind)| match kind.as_str() {
-        "&[u8]" | "&mut [u8]" => format!(" (now ({name} .entry))"),
+        "&[u8]" => format!(" {name}.now"),
+        "&mut [u8]" => format!(" {name}.old"),
         _ => format!(" {name}"),
     });
     constructor(call) + &written.collect::<String>()
 }
 
-/// What a call ensures of the words before and after, which are the same where the tree is lent
-/// unchangeable: that the call which is named so has answered r.
+/// The words before and after a call, which are the same where the tree is lent unchangeable.
+fn words(call: &Function) -> (&'static str, &'static str) {
+    match call.type_of("tree") {
+        Some("&Tree") => ("tree.now", "tree.now"),
+        _ => ("tree.old", "tree.new"),
+    }
+}
+
+/// What a call ensures of the words: that the call which is named so has answered the result. The
+/// clause has a name where the function has a second one.
 fn answered(call: &Function) -> String {
-    let after = if call.type_of("tree") == Some("&Tree") { "entry" } else { "exit" };
-    let words = format!("(now (tree .entry)) (now (tree .{after}))");
-    format!("ensures {{ λ r. ⌜ Answered {words} ({}) r ⌝ }}", named(call))
+    let (before, after) = words(call);
+    let label = if call.type_of("told").is_some() { "answered " } else { "" };
+    format!("ensures {label}{{ Answered {before} {after} ({}) result }}", named(call))
 }
 
 /// What a function ensures of the words that it tells and of the reply buffer, where it has them.
 fn told(function: &Function) -> Option<String> {
     function.type_of("told")?;
-    let reply = |name: &str| format!("({name} (view (now (tree .entry))) ({}))", named(function));
+    let before = words(function).0;
+    let reply = |name: &str| format!("({name} (view {before}) ({}))", named(function));
     Some(if function.type_of("reply").is_some() {
-        let both = "(now (told .exit)) (now (reply .exit))";
-        format!("ensures {{ λ r. ⌜ Told {} {both} ⌝ }}", reply("replyOf"))
+        format!("ensures told {{ Told {} told.new reply.new }}", reply("reply_of"))
     } else if function.type_of("tree").is_some() {
-        format!("ensures {{ λ _. ⌜ now (told .exit) ≡ roomWords {} ⌝ }}", reply("reply"))
+        format!("ensures told_after {{ told.new ≡ room_words {} }}", reply("reply"))
     } else {
-        let part = "partWords (firstBadWord (now (line .entry)))";
-        format!("ensures {{ λ _. ⌜ now (told .exit) ≡ {part} ⌝ }}")
+        "ensures { told.new ≡ part_words (first_bad_word line.now) }".to_string()
     })
 }
 
@@ -231,7 +274,8 @@ fn told(function: &Function) -> Option<String> {
 fn every_call_on_a_tree_ensures_answered() {
     for call in calls() {
         let name = &call.name;
-        assert_eq!(call.clauses_with("requires"), ["requires { ⌜ Kept (now tree) ⌝ }"], "{name}");
+        let kept = format!("requires {{ Kept {} }}", words(&call).0);
+        assert_eq!(call.clauses_with("requires"), [kept], "{name}");
         assert_eq!(call.clauses_with("Answered"), [answered(&call)], "{name}");
     }
 }
@@ -249,8 +293,8 @@ fn every_call_of_the_definitions_is_exported() {
 fn what_is_told_and_replied_is_promised() {
     for function in exported() {
         let promised: Vec<String> = told(&function).into_iter().collect();
-        assert_eq!(function.clauses_with("(told .exit)"), promised, "{}", function.name);
-        let buffered = function.clauses_with("(reply .exit)");
+        assert_eq!(function.clauses_with("told.new"), promised, "{}", function.name);
+        let buffered = function.clauses_with("reply.new");
         assert_eq!(buffered.is_empty(), function.type_of("reply").is_none(), "{}", function.name);
     }
 }
