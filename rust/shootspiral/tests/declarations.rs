@@ -80,15 +80,19 @@ fn library() -> Vec<Function> {
     all
 }
 
+/// What is exported, as it stands.
+fn exports() -> Vec<Function> {
+    functions("crates/shootspiral_c/src", "#[unsafe(no_mangle)]\npub extern \"C\" fn ")
+}
+
 /// All that is exported, each with the body of the library's function.
 fn exported() -> Vec<Function> {
-    let all = functions("crates/shootspiral_c/src", "#[unsafe(no_mangle)]\npub extern \"C\" fn ");
     let mut bodies = library();
     let with_body = |function: Function| {
         let place = bodies.iter().position(|called| called.name == function.name);
         Function { body: bodies.swap_remove(place.expect(&function.name)).body, ..function }
     };
-    all.into_iter().map(with_body).collect()
+    exports().into_iter().map(with_body).collect()
 }
 
 /// What a number is in C and in Rust: a group or a process where the body makes it one, and a user
@@ -161,9 +165,8 @@ fn assert_same(mut declared: Vec<String>, mut exported: Vec<String>) {
 /// own parameters in order.
 #[test]
 fn an_export_is_the_function_of_its_name() {
-    let exports = functions("crates/shootspiral_c/src", "#[unsafe(no_mangle)]\npub extern \"C\" fn ");
-    assert_eq!(exports.len(), library().len());
-    for export in exports {
+    assert_eq!(exports().len(), library().len());
+    for export in exports() {
         let names: Vec<&str> = export.parameters.iter().map(|(name, _)| name.as_str()).collect();
         let call = format!("{}({})", export.name, names.join(", "));
         let called = export.body.trim().trim_end_matches(';');
