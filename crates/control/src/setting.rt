@@ -21,7 +21,7 @@ use tree::rule::{is_on, may_write};
 use tree::setting::{period, quota, set_cpu, set_limit, setting_controller, weight};
 
 // The value that a write is to store, or what it is refused with.
-#[derive(Drop)]
+#[derive(Clone, Copy)]
 enum Given {
     Value(SettingValue),
     Refused(Errno),

@@ -29,14 +29,14 @@ pub fn empty() -> Slots
 }
 
 // What stays in a place, and what is carried on.
-#[derive(Drop)]
+#[derive(Clone, Copy)]
 struct Placed {
     kept: Slot,
     carried: Slot,
 }
 
 // What a pass leaves in the four places, and what it carries out of them: a fifth device, or a free slot.
-#[derive(Drop)]
+#[derive(Clone, Copy)]
 pub struct Passed {
     pub slots: Slots,
     pub out: Slot,

@@ -10,13 +10,13 @@ use model::{Controller, File, Resource, Setting};
 use text::line::is_same;
 
 // What a word names among the controllers, and a file name among the settings.
-#[derive(Drop)]
+#[derive(Clone, Copy)]
 pub enum ControllerName {
     Of(Controller),
     Unknown,
 }
 
-#[derive(Drop)]
+#[derive(Clone, Copy)]
 pub enum SettingName {
     Of(Setting),
     Unknown,

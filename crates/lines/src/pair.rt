@@ -14,14 +14,14 @@ use text::line::{is_same, next_word};
 const EQUALS: u8 = 61;
 
 // What a word names among the keys.
-#[derive(Drop)]
+#[derive(Clone, Copy)]
 enum KeyName {
     Of(Key),
     Unknown,
 }
 
 // What the pairs of a line give.
-#[derive(Drop)]
+#[derive(Clone, Copy)]
 pub enum PairsWord {
     Of(Pairs),
     // a word that is no pair, or a key given twice

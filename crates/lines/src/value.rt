@@ -15,7 +15,7 @@ use text::number::{Number, parse_number, parse_number_line};
 const COLON: u8 = 58;
 
 // What a line gives a setting.
-#[derive(Drop)]
+#[derive(Clone, Copy)]
 pub enum LineValue {
     Of(SettingValue),
     // 22 not as many words as the setting takes, a word of another form, or a key given twice

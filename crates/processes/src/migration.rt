@@ -24,7 +24,7 @@ use tree::rule::may_write;
 use tree::sum::Counter;
 
 // The live process that a line names, or what the line is refused with.
-#[derive(Drop)]
+#[derive(Clone, Copy)]
 enum Named {
     Process(ProcessId),
     Refused(Errno),

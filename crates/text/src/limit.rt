@@ -8,7 +8,7 @@ use super::number::{Number, parse_number};
 use model::Limit;
 
 // What a word says as a limit.
-#[derive(Drop)]
+#[derive(Clone, Copy)]
 pub enum LimitWord {
     Of(Limit),
     Malformed,

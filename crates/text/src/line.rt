@@ -10,14 +10,14 @@ const SPACE: u8 = 32;
 const LONGEST_LINE: usize = 128;
 
 // A part of a text: from `start` up to `end`.
-#[derive(Drop)]
+#[derive(Clone, Copy)]
 pub struct Span {
     pub start: usize,
     pub end: usize,
 }
 
 // The words of a line, where they are few.
-#[derive(Drop)]
+#[derive(Clone, Copy)]
 pub enum Words {
     Empty,
     One(Span),

@@ -15,7 +15,7 @@ const NINE: u8 = 57;
 const LARGEST: u64 = 18446744073709551615;
 
 // What a word says as a number.
-#[derive(Drop)]
+#[derive(Clone, Copy)]
 pub enum Number {
     Figure(u64),
     NotANumber,

@@ -11,7 +11,7 @@ use super::layout::{CHAIN, Tree};
 use model::{GroupId, Meeting};
 
 // The first `len` groups of `at`.
-#[derive(Drop)]
+#[derive(Clone, Copy)]
 pub struct Chain {
     pub at: [GroupId; CHAIN],
     pub len: usize,
