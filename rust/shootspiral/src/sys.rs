@@ -1,5 +1,5 @@
 //! The C interface as `include/shootspiral.h` declares it. `tests/declarations.rs` compares both
-//! with what `crates/shootspiral` exports.
+//! with what `crates/shootspiral_c` exports.
 //!
 //! What a caller owes, of each function: `tree` points to [`ss_tree_words`] words that a call of
 //! [`ss_fresh`] and then only calls of these functions have written; no pointer is null but one
