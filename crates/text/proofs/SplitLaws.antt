@@ -2,7 +2,7 @@
 -- which a line is split, and the word of a line that has exactly one. Assumes nothing.
 use Prim.Native.Nat.{ℕ, zero, suc, ◌-◌, ◌≤◌, ◌<◌}
 use mathlib.Core.List.{List, [], ◌∷◌}
-use mathlib.Core.Path.{◌≡◌, refl, ap, sym, ◌∙◌}
+use mathlib.Core.Path.{◌≡◌, refl, ap, sym, subst, ◌∙◌}
 use native.Mathlib.Numerals.{unary_clauses}
 use native.Mathlib.Omega.{arith}
 use lib.ListN.{length, take, drop}
@@ -88,6 +88,10 @@ module _ (line : List ℕ) (n : ℕ) (e : LineEnd line n) where
 
 pub one_word : (line : List ℕ) (p : Span) → OneWord line p → spanned line p ≡ sole_word (line_words line)
 one_word line p o = rw o.words_are
+
+-- what a split says of the line, by the variant that was matched
+pub split-as : (line : List ℕ) {v r : Words} → SplitAs line v → v ≡ r → SplitAs line r
+split-as line s e = subst (SplitAs line) e s
 
 -- no bytes where the words are of another kind
 pub other-words : (line : List ℕ) (r : Words) → SplitAs line r → ((p : Span) → r ≡ One p → ⊥)

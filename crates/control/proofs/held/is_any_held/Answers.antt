@@ -31,7 +31,7 @@ loop-left-preserved c =
     let next =
     any_next (is_found a.t.now a.g.0 a.leaving) _ c.loop-left-test.true
     (cc (c.child_holds_any.ensures, c.if-child_holds_any.false)) in
-    (omega (arith, c.loop-left.invariant.0), next ∙ c.loop-left.invariant.1)
+    (omega arith, next ∙ c.loop-left.invariant.1)
 
 -- found in none
 pub returns : goal.returns

@@ -8,43 +8,19 @@ pub slots-s-requires : goal.slots-s-requires
 slots-s-requires c = let k = c.requires.0 in k.kept.formed.sound.range _ k.live
 
 pub put_slot-first-requires : goal.put_slot-first-requires
-put_slot-first-requires c = omega (arith, length-devices _ _ _ c.requires.0 c.slots-s.ensures, c.requires.1)
+put_slot-first-requires c = omega (arith, length-devices _ _ _ c.requires.0 c.slots-s.ensures)
 
 pub put_slot-second-requires : goal.put_slot-second-requires
 put_slot-second-requires c =
-    omega (
-      arith,
-      length-devices _ _ _ c.requires.0 c.slots-s.ensures,
-      c.requires.1,
-      c.put_slot-first.ensures.end,
-      c.put_slot-first.auto.out,
-    )
+    omega (arith, length-devices _ _ _ c.requires.0 c.slots-s.ensures)
 
 pub put_slot-third-requires : goal.put_slot-third-requires
 put_slot-third-requires c =
-    omega (
-      arith,
-      length-devices _ _ _ c.requires.0 c.slots-s.ensures,
-      c.requires.1,
-      c.put_slot-first.ensures.end,
-      c.put_slot-first.auto.out,
-      c.put_slot-second.ensures.end,
-      c.put_slot-second.auto.out,
-    )
+    omega (arith, length-devices _ _ _ c.requires.0 c.slots-s.ensures)
 
 pub put_slot-requires : goal.put_slot-requires
 put_slot-requires c =
-    omega (
-      arith,
-      length-devices _ _ _ c.requires.0 c.slots-s.ensures,
-      c.requires.1,
-      c.put_slot-first.ensures.end,
-      c.put_slot-first.auto.out,
-      c.put_slot-second.ensures.end,
-      c.put_slot-second.auto.out,
-      c.put_slot-third.ensures.end,
-      c.put_slot-third.auto.out,
-    )
+    omega (arith, length-devices _ _ _ c.requires.0 c.slots-s.ensures)
 
 pub returns : goal.returns
 returns c =

@@ -5,36 +5,18 @@ use Rattle.files.proofs.DeviceTextLaws.{length-limits}
 use Rattle.files.proofs.device.put_limits.Goals as goal
 
 pub put_pair-first-requires : goal.put_pair-first-requires
-put_pair-first-requires c = omega (arith, length-limits c.args.x, c.requires)
+put_pair-first-requires c = omega (arith, length-limits c.args.x)
 
 pub put_pair-second-requires : goal.put_pair-second-requires
-put_pair-second-requires c = omega (arith, length-limits c.args.x, c.requires, c.put_pair-first.ensures.end, c.put_pair-first.auto.out)
+put_pair-second-requires c = omega (arith, length-limits c.args.x)
 
 pub put_pair-third-requires : goal.put_pair-third-requires
 put_pair-third-requires c =
-    omega (
-      arith,
-      length-limits c.args.x,
-      c.requires,
-      c.put_pair-first.ensures.end,
-      c.put_pair-first.auto.out,
-      c.put_pair-second.ensures.end,
-      c.put_pair-second.auto.out,
-    )
+    omega (arith, length-limits c.args.x)
 
 pub put_pair-requires : goal.put_pair-requires
 put_pair-requires c =
-    omega (
-      arith,
-      length-limits c.args.x,
-      c.requires,
-      c.put_pair-first.ensures.end,
-      c.put_pair-first.auto.out,
-      c.put_pair-second.ensures.end,
-      c.put_pair-second.auto.out,
-      c.put_pair-third.ensures.end,
-      c.put_pair-third.auto.out,
-    )
+    omega (arith, length-limits c.args.x)
 
 pub returns : goal.returns
 returns c =

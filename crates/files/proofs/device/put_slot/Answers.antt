@@ -31,23 +31,11 @@ put_device-numbers-requires c =
 
 pub put_limits-limits-requires : goal.put_limits-limits-requires
 put_limits-limits-requires c =
-    omega (
-      arith,
-      slot-room c.args.at c.args.x c.args.out.now c.requires c.if-x-eq0.false c.major_of.ensures c.minor_of.ensures,
-      c.put_device-numbers.ensures.end,
-      c.put_device-numbers.auto.out,
-    )
+    omega (arith, slot-room c.args.at c.args.x c.args.out.now c.requires c.if-x-eq0.false c.major_of.ensures c.minor_of.ensures)
 
 pub put_byte-requires : goal.put_byte-requires
 put_byte-requires c =
-    omega (
-      arith,
-      slot-room c.args.at c.args.x c.args.out.now c.requires c.if-x-eq0.false c.major_of.ensures c.minor_of.ensures,
-      c.put_device-numbers.ensures.end,
-      c.put_device-numbers.auto.out,
-      c.put_limits-limits.ensures.end,
-      c.put_limits-limits.auto.out,
-    )
+    omega (arith, slot-room c.args.at c.args.x c.args.out.now c.requires c.if-x-eq0.false c.major_of.ensures c.minor_of.ensures)
 
 pub returns : goal.returns
 returns c =

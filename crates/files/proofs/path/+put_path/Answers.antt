@@ -23,16 +23,11 @@ put_path-above-requires t c =
 
 pub put_byte-slash-requires : goal.put_byte-slash-requires
 put_byte-slash-requires t c =
-    omega (arith, path-fits _ _ _ _ _ c.requires c.if-deep-eq0.false _ c.path_parent.ensures, c.put_path-above.ensures.end)
+    omega (arith, path-fits _ _ _ _ _ c.requires c.if-deep-eq0.false _ c.path_parent.ensures)
 
 pub put_number-requires : goal.put_number-requires
 put_number-requires t c =
-    omega (
-      arith,
-      path-fits _ _ _ _ _ c.requires c.if-deep-eq0.false _ c.path_parent.ensures,
-      c.put_path-above.ensures.end,
-      c.put_byte-slash.ensures.end,
-    )
+    omega (arith, path-fits _ _ _ _ _ c.requires c.if-deep-eq0.false _ c.path_parent.ensures)
 
 -- the parent's path, and then the number
 pub returns : goal.returns

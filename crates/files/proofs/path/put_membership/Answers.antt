@@ -20,37 +20,18 @@ last_group-group-requires c = taken-number c.args.t.now c.requires.kept c.args.p
 pub put_place-end-requires : goal.put_place-end-requires
 put_place-end-requires c = (
   there c.requires c.last_group-group.ensures,
-  omega (arith, c.requires.room, c.put_text-start.ensures.end, c.put_text-start.auto.out),
+  omega arith,
 )
 
 pub put_mark-marked-requires : goal.put_mark-marked-requires
 put_mark-marked-requires c = (
   there-low (there c.requires c.last_group-group.ensures),
-  omega (
-    arith,
-    length-place _ _ (there c.requires c.last_group-group.ensures),
-    c.requires.room,
-    c.put_text-start.ensures.end,
-    c.put_text-start.auto.out,
-    c.put_place-end.ensures.end,
-    c.put_place-end.auto.out,
-  ),
+  omega (arith, length-place _ _ (there c.requires c.last_group-group.ensures)),
 )
 
 pub put_byte-requires : goal.put_byte-requires
 put_byte-requires c =
-    omega (
-      arith,
-      length-place _ _ (there c.requires c.last_group-group.ensures),
-      length-mark (view c.args.t.now) c.last_group-group.result.0,
-      c.requires.room,
-      c.put_text-start.ensures.end,
-      c.put_text-start.auto.out,
-      c.put_place-end.ensures.end,
-      c.put_place-end.auto.out,
-      c.put_mark-marked.ensures.end,
-      c.put_mark-marked.auto.out,
-    )
+    omega (arith, length-place _ _ (there c.requires c.last_group-group.ensures), length-mark (view c.args.t.now) c.last_group-group.result.0)
 
 pub returns : goal.returns
 returns c =

@@ -20,7 +20,7 @@ pub put_membership-end-requires : goal.put_membership-end-requires
 put_membership-end-requires c = record { kept = c.requires; taken = sym c.is_taken.ensures ∙ c.if-not-is_taken.false; room = omega arith }
 
 pub slice_bounds-scratch-end : goal.slice_bounds-scratch-end
-slice_bounds-scratch-end c = omega (arith, appended-inside (omega arith) c.put_membership-end.ensures, c.put_membership-end.auto.out)
+slice_bounds-scratch-end c = omega (arith, appended-inside (omega arith) c.put_membership-end.ensures)
 
 pub slice_bounds-deliver-end : goal.slice_bounds-deliver-end
 slice_bounds-deliver-end c = sym (length-take-le _ _ (appended-inside (omega arith) c.put_membership-end.ensures))

@@ -10,7 +10,7 @@ pub put_devices-end-requires : goal.put_devices-end-requires
 put_devices-end-requires c = (c.requires, omega arith)
 
 pub slice_bounds-scratch-end : goal.slice_bounds-scratch-end
-slice_bounds-scratch-end c = omega (arith, appended-inside (omega arith) c.put_devices-end.ensures, c.put_devices-end.auto.out)
+slice_bounds-scratch-end c = omega (arith, appended-inside (omega arith) c.put_devices-end.ensures)
 
 pub slice_bounds-deliver-end : goal.slice_bounds-deliver-end
 slice_bounds-deliver-end c = sym (length-take-le _ _ (appended-inside (omega arith) c.put_devices-end.ensures))

@@ -10,7 +10,7 @@ pub render-end-requires : goal.render-end-requires
 render-end-requires c = (record { group = c.requires.0; room = omega arith }, c.requires.1)
 
 pub slice_bounds-scratch-end : goal.slice_bounds-scratch-end
-slice_bounds-scratch-end c = omega (arith, appended-inside (omega arith) c.render-end.ensures, c.render-end.auto.out)
+slice_bounds-scratch-end c = omega (arith, appended-inside (omega arith) c.render-end.ensures)
 
 pub slice_bounds-deliver-end : goal.slice_bounds-deliver-end
 slice_bounds-deliver-end c = sym (length-take-le _ _ (appended-inside (omega arith) c.render-end.ensures))

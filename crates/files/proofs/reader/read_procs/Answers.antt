@@ -10,7 +10,7 @@ pub put_procs-end-requires : goal.put_procs-end-requires
 put_procs-end-requires c = (c.requires, omega arith)
 
 pub slice_bounds-scratch-end : goal.slice_bounds-scratch-end
-slice_bounds-scratch-end c = omega (arith, appended-inside (omega arith) c.put_procs-end.ensures, c.put_procs-end.auto.out)
+slice_bounds-scratch-end c = omega (arith, appended-inside (omega arith) c.put_procs-end.ensures)
 
 pub slice_bounds-deliver-end : goal.slice_bounds-deliver-end
 slice_bounds-deliver-end c = sym (length-take-le _ _ (appended-inside (omega arith) c.put_procs-end.ensures))

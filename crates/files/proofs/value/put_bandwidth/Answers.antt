@@ -5,29 +5,15 @@ use Rattle.files.proofs.ValueTextLaws.{bandwidth-words, length-bandwidth}
 use Rattle.files.proofs.value.put_bandwidth.Goals as goal
 
 pub put_limit-word-requires : goal.put_limit-word-requires
-put_limit-word-requires c = omega (arith, length-bandwidth c.args.quota c.args.period, c.requires)
+put_limit-word-requires c = omega (arith, length-bandwidth c.args.quota c.args.period)
 
 pub put_byte-space-requires : goal.put_byte-space-requires
 put_byte-space-requires c =
-    omega (
-      arith,
-      length-bandwidth c.args.quota c.args.period,
-      c.requires,
-      c.put_limit-word.ensures.end,
-      c.put_limit-word.auto.out,
-    )
+    omega (arith, length-bandwidth c.args.quota c.args.period)
 
 pub put_line-requires : goal.put_line-requires
 put_line-requires c =
-    omega (
-      arith,
-      length-bandwidth c.args.quota c.args.period,
-      c.requires,
-      c.put_limit-word.ensures.end,
-      c.put_limit-word.auto.out,
-      c.put_byte-space.ensures.end,
-      c.put_byte-space.auto.out,
-    )
+    omega (arith, length-bandwidth c.args.quota c.args.period)
 
 pub returns : goal.returns
 returns c =

@@ -9,11 +9,7 @@ to_figure-figure-requires c = figure-fits _ c.requires.group.kept.formed _ c.arg
 
 pub put_line-requires : goal.put_line-requires
 put_line-requires c =
-    omega (
-      arith,
-      length-count _ c.requires.group.kept.formed _ c.args.s _ _ c.count.ensures c.to_figure-figure.ensures,
-      c.requires.room,
-    )
+    omega (arith, length-count _ c.requires.group.kept.formed _ c.args.s _ _ c.count.ensures c.to_figure-figure.ensures)
 
 pub returns : goal.returns
 returns c =

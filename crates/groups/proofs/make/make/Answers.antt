@@ -17,7 +17,7 @@ depth-deep-requires c =
 pub overflow_add-deep : goal.overflow_add-deep
 overflow_add-deep c =
     let d = sym c.vet_make-v.ensures ∙ c.in-Done.is in
-    omega (arith, c.depth-deep.ensures, (makeable _ _ _ _ d).shallow)
+    omega (arith, (makeable _ _ _ _ d).shallow)
 
 pub adjust-requires : goal.adjust-requires
 adjust-requires c =

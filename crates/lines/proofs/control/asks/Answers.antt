@@ -9,16 +9,16 @@ use Rattle.text.proofs.SplitLaws.{text-length}
 use Rattle.lines.proofs.control.asks.Goals as goal
 
 pub slice_bounds-wish_of-end : goal.slice_bounds-wish_of-end
-slice_bounds-wish_of-end c = text-length (c.args.line.now) _ c.line_end-n.ensures
+slice_bounds-wish_of-end c = text-length c.args.line.now _ c.line_end-n.ensures
 
 pub slice_bounds-wish_of-end-2 : goal.slice_bounds-wish_of-end-2
-slice_bounds-wish_of-end-2 c = text-length (c.args.line.now) _ c.line_end-n.ensures
+slice_bounds-wish_of-end-2 c = text-length c.args.line.now _ c.line_end-n.ensures
 
 pub slice_bounds-wish_of-end-3 : goal.slice_bounds-wish_of-end-3
-slice_bounds-wish_of-end-3 c = text-length (c.args.line.now) _ c.line_end-n.ensures
+slice_bounds-wish_of-end-3 c = text-length c.args.line.now _ c.line_end-n.ensures
 
 pub slice_bounds-wish_of-end-4 : goal.slice_bounds-wish_of-end-4
-slice_bounds-wish_of-end-4 c = text-length (c.args.line.now) _ c.line_end-n.ensures
+slice_bounds-wish_of-end-4 c = text-length c.args.line.now _ c.line_end-n.ensures
 
 pub returns : goal.returns
 returns c =

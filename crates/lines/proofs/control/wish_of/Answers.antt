@@ -1,9 +1,7 @@
 -- `lines::control::wish_of` meets its contract: the words from `at` on, after the wish so far, ask what all the words
 -- ask. The measure is what is left of the text. Assumes nothing.
-use Prim.Native.Nat.{◌<◌}
 use mathlib.Core.Path.{refl}
 use native.Mathlib.Omega.{arith}
-use lib.ListN.{length}
 use Rattle.lines.proofs.ControlLaws.{asked-none, asked-more}
 use Rattle.text.proofs.WordLaws.{words-next, words-none, words-out}
 use Rattle.lines.proofs.control.wish_of.Goals as goal
@@ -15,16 +13,16 @@ loop-at-init c = (omega arith, refl)
 pub returns-then-s-text : goal.returns-then-s-text
 returns-then-s-text c =
     asked-none _ _ _ _ c.loop-at.invariant.1
-    (words-none (c.args.text.now) c.loop-at.at _ c.next_word-word.ensures c.if-s-text.true)
+    (words-none c.args.text.now c.loop-at.at _ c.next_word-word.ensures c.if-s-text.true)
 
 pub loop-at-smaller : goal.loop-at-smaller
-loop-at-smaller c = omega (arith, c.next_word-word.ensures.some ((let it : c.next_word-word.result.start < length (c.args.text.now) = omega arith in it)))
+loop-at-smaller c = omega (arith, c.next_word-word.ensures.some (omega arith))
 
 pub loop-at-preserved : goal.loop-at-preserved
 loop-at-preserved c =
-    let next = words-next (c.args.text.now) c.loop-at.at _ c.next_word-word.ensures ((let it : c.next_word-word.result.start < length (c.args.text.now) = omega arith in it)) in
+    let next = words-next c.args.text.now c.loop-at.at _ c.next_word-word.ensures (omega arith) in
     (omega arith, asked-more _ _ _ _ c.loop-at.invariant.1 _ _ _ next c.wished-wish.ensures)
 
 -- the end of the text
 pub returns : goal.returns
-returns c = asked-none _ _ _ _ c.loop-at.invariant.1 (words-out (c.args.text.now) c.loop-at.at (omega arith))
+returns c = asked-none _ _ _ _ c.loop-at.invariant.1 (words-out c.args.text.now c.loop-at.at (omega arith))

@@ -1,7 +1,5 @@
 -- `lines::range::are_pairs_in` meets its contract: one key after another. Assumes nothing.
-use mathlib.Core.Path.{◌≡◌, sym, ◌∙◌}
-use mathlib.Core.Bool.{true}
-use Rattle.model.specs.DeviceLines.{pair_in}
+use mathlib.Core.Path.{sym, ◌∙◌}
 use Rattle.lines.proofs.RangeLaws.{test-fails, test-passes}
 use Rattle.lines.proofs.range.are_pairs_in.Goals as goal
 
@@ -10,16 +8,16 @@ returns-then-not-is_pair_in c = test-fails _ _ (sym c.is_pair_in.ensures ∙ c.i
 
 pub returns-then-not-is_pair_in-2 : goal.returns-then-not-is_pair_in-2
 returns-then-not-is_pair_in-2 c =
-    test-passes _ _ _ ((let it : pair_in c.args.pairs.rbps ≡ true = sym c.is_pair_in.ensures ∙ c.if-not-is_pair_in.false in it))
+    test-passes _ _ _ (sym c.is_pair_in.ensures ∙ c.if-not-is_pair_in.false)
     (test-fails _ _ (sym c.is_pair_in-2.ensures ∙ c.if-not-is_pair_in-2.true))
 
 pub returns-then-not-is_pair_in-3 : goal.returns-then-not-is_pair_in-3
 returns-then-not-is_pair_in-3 c =
-    test-passes _ _ _ ((let it : pair_in c.args.pairs.rbps ≡ true = sym c.is_pair_in.ensures ∙ c.if-not-is_pair_in.false in it))
-    (test-passes _ _ _ ((let it : pair_in c.args.pairs.wbps ≡ true = sym c.is_pair_in-2.ensures ∙ c.if-not-is_pair_in-2.false in it))
+    test-passes _ _ _ (sym c.is_pair_in.ensures ∙ c.if-not-is_pair_in.false)
+    (test-passes _ _ _ (sym c.is_pair_in-2.ensures ∙ c.if-not-is_pair_in-2.false)
     (test-fails _ _ (sym c.is_pair_in-3.ensures ∙ c.if-not-is_pair_in-3.true)))
 
 pub returns : goal.returns
 returns c =
-    test-passes _ _ _ ((let it : pair_in c.args.pairs.rbps ≡ true = sym c.is_pair_in.ensures ∙ c.if-not-is_pair_in.false in it))
-    (test-passes _ _ _ ((let it : pair_in c.args.pairs.wbps ≡ true = sym c.is_pair_in-2.ensures ∙ c.if-not-is_pair_in-2.false in it)) (test-passes _ _ _ ((let it : pair_in c.args.pairs.riops ≡ true = sym c.is_pair_in-3.ensures ∙ c.if-not-is_pair_in-3.false in it)) c.is_pair_in-4.ensures))
+    test-passes _ _ _ (sym c.is_pair_in.ensures ∙ c.if-not-is_pair_in.false)
+    (test-passes _ _ _ (sym c.is_pair_in-2.ensures ∙ c.if-not-is_pair_in-2.false) (test-passes _ _ _ (sym c.is_pair_in-3.ensures ∙ c.if-not-is_pair_in-3.false) c.is_pair_in-4.ensures))

@@ -7,13 +7,13 @@ use Rattle.lines.specs.Value.{as_line_value}
 use Rattle.lines.proofs.value.parse_value.Goals as goal
 
 pub returns-in-CpuWeight : goal.returns-in-CpuWeight
-returns-in-CpuWeight c = c.parse_weight.ensures ∙ ap ((λ (x : Setting). as_line_value (value_of x (line_words c.args.line.now)))) (sym c.in-CpuWeight.is)
+returns-in-CpuWeight c = c.parse_weight.ensures ∙ ap (λ (x : Setting). as_line_value (value_of x (line_words c.args.line.now))) (sym c.in-CpuWeight.is)
 
 pub returns-in-CpuMax : goal.returns-in-CpuMax
-returns-in-CpuMax c = c.parse_bandwidth.ensures ∙ ap ((λ (x : Setting). as_line_value (value_of x (line_words c.args.line.now)))) (sym c.in-CpuMax.is)
+returns-in-CpuMax c = c.parse_bandwidth.ensures ∙ ap (λ (x : Setting). as_line_value (value_of x (line_words c.args.line.now))) (sym c.in-CpuMax.is)
 
 pub returns-in-IoMax : goal.returns-in-IoMax
-returns-in-IoMax c = c.parse_device.ensures ∙ ap ((λ (x : Setting). as_line_value (value_of x (line_words c.args.line.now)))) (sym c.in-IoMax.is)
+returns-in-IoMax c = c.parse_device.ensures ∙ ap (λ (x : Setting). as_line_value (value_of x (line_words c.args.line.now))) (sym c.in-IoMax.is)
 
 pub returns-in-Max : goal.returns-in-Max
-returns-in-Max c = c.parse_maximum.ensures ∙ ap ((λ (x : Setting). as_line_value (value_of x (line_words c.args.line.now)))) (sym c.in-Max.is)
+returns-in-Max c = c.parse_maximum.ensures ∙ ap (λ (x : Setting). as_line_value (value_of x (line_words c.args.line.now))) (sym c.in-Max.is)

@@ -11,16 +11,16 @@ loop-i-init c = (omega arith, omega arith)
 pub returns-then-word-i : goal.returns-then-word-i
 returns-then-word-i c =
     let a = c.args in
-    omega (arith, c.loop-i.invariant.1, cut-here a.byte a.word.now c.loop-i.i c.loop-i-test.true c.if-word-i.true)
+    omega (arith, cut-here a.byte a.word.now c.loop-i.i c.loop-i-test.true c.if-word-i.true)
 
 pub loop-i-preserved : goal.loop-i-preserved
 loop-i-preserved c =
     let a = c.args in
     let m = cut_later a.byte a.word.now c.loop-i.i c.loop-i-test.true c.if-word-i.false in
-    (omega arith, omega (arith, c.loop-i.invariant.1))
+    (omega arith, omega arith)
 
 -- the end of the word
 pub returns : goal.returns
 returns c =
     let a = c.args in
-    omega (arith, c.loop-i.invariant.1, cut_out a.byte a.word.now c.loop-i.i (omega arith))
+    omega (arith, cut_out a.byte a.word.now c.loop-i.i (omega arith))

@@ -3,7 +3,13 @@ use Prim.Native.Nat.{◌+◌, ◌≤◌}
 use native.Mathlib.Omega.{arith}
 use lib.ListN.{length}
 use Rattle.text.proofs.CutLaws.{cut_inside, part-rest, part_none}
+use Rattle.std.proofs.Common.{ℕ, ◌+◌, ◌≤◌, ◌≡◌, ◌≢◌, List, length}
+use Rattle.model.specs.DeviceLines.{before}
 use Rattle.text.proofs.cut.part_after.Goals as goal
+
+-- what stands behind the byte begins within the word
+behind : (b n : ℕ) (w : List ℕ) → n ≡ length (before b w) → n ≢ length w → n + 1 ≤ length w
+behind b n w e ne = omega (arith, cut_inside b w)
 
 -- the byte is not there
 pub returns-then-n-word : goal.returns-then-n-word
@@ -13,21 +19,13 @@ returns-then-n-word c =
 
 pub overflow_add-result : goal.overflow_add-result
 overflow_add-result c =
-    omega (
-      arith,
-      (let it : c.cut_at-n.result + 1 ≤ length c.args.word.now = let a = c.args in
-          omega (arith, c.cut_at-n.ensures, cut_inside a.byte a.word.now, c.if-n-word.false) in it),
-    )
+    omega (arith, behind c.args.byte c.cut_at-n.result c.args.word.now c.cut_at-n.ensures c.if-n-word.false)
 
 pub slice_bounds-result-count-2 : goal.slice_bounds-result-count-2
-slice_bounds-result-count-2 c =
-    (let it : c.cut_at-n.result + 1 ≤ length c.args.word.now = let a = c.args in
-    omega (arith, c.cut_at-n.ensures, cut_inside a.byte a.word.now, c.if-n-word.false) in it)
+slice_bounds-result-count-2 c = behind c.args.byte _ c.args.word.now c.cut_at-n.ensures c.if-n-word.false
 
 pub slice_bounds-result-start-2 : goal.slice_bounds-result-start-2
-slice_bounds-result-start-2 c =
-    (let it : c.cut_at-n.result + 1 ≤ length c.args.word.now = let a = c.args in
-    omega (arith, c.cut_at-n.ensures, cut_inside a.byte a.word.now, c.if-n-word.false) in it)
+slice_bounds-result-start-2 c = behind c.args.byte _ c.args.word.now c.cut_at-n.ensures c.if-n-word.false
 
 pub returns : goal.returns
 returns c =

@@ -8,7 +8,7 @@ use Rattle.text.proofs.cut.part_before.Goals as goal
 pub slice_bounds-result-end : goal.slice_bounds-result-end
 slice_bounds-result-end c =
     let a = c.args in
-    sym (length-take-le c.cut_at-n.result a.word.now (omega (arith, c.cut_at-n.ensures, cut_inside a.byte a.word.now)))
+    sym (length-take-le c.cut_at-n.result a.word.now (omega (arith, cut_inside a.byte a.word.now)))
 
 pub returns : goal.returns
 returns c =

@@ -1,9 +1,6 @@
 -- `text::line::sole_word` meets its contract: by how many words the line was split into. Assumes nothing.
 use native.Mathlib.Omega.{arith}
-use mathlib.Core.Path.{subst}
-use Rattle.text.specs.Line.{OneWord, SplitAs}
-use Rattle.text.specs.declared.line.Words.{Words}
-use Rattle.text.proofs.SplitLaws.{one_word, other-words}
+use Rattle.text.proofs.SplitLaws.{split-as, one_word, other-words}
 use Rattle.text.proofs.line.sole_word.Goals as goal
 
 -- not one word
@@ -11,11 +8,11 @@ pub returns-in_default : goal.returns-in_default
 returns-in_default c = other-words c.args.line.now _ c.split-words.ensures c.in_default.not-One
 
 pub slice_bounds-result-count : goal.slice_bounds-result-count
-slice_bounds-result-count c = omega (arith, (let it : OneWord (c.args.line.now) c.in-One.word = subst (λ (w : Words). SplitAs (c.args.line.now) w) c.in-One.is c.split-words.ensures in it))
+slice_bounds-result-count c = omega (arith, split-as c.args.line.now c.split-words.ensures c.in-One.is)
 
 pub slice_bounds-result-start : goal.slice_bounds-result-start
-slice_bounds-result-start c = omega (arith, (let it : OneWord (c.args.line.now) c.in-One.word = subst (λ (w : Words). SplitAs (c.args.line.now) w) c.in-One.is c.split-words.ensures in it))
+slice_bounds-result-start c = omega (arith, split-as c.args.line.now c.split-words.ensures c.in-One.is)
 
 -- the word
 pub returns : goal.returns
-returns c = one_word (c.args.line.now) _ ((let it : OneWord (c.args.line.now) c.in-One.word = subst (λ (w : Words). SplitAs (c.args.line.now) w) c.in-One.is c.split-words.ensures in it))
+returns c = one_word c.args.line.now _ (split-as c.args.line.now c.split-words.ensures c.in-One.is)

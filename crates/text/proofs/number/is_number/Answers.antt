@@ -15,17 +15,17 @@ loop-i-init c = (omega arith, ap known (number-start _ c.if-word-eq0.false))
 
 -- a byte below the digits
 pub returns-then-b-lt-ZERO : goal.returns-then-b-lt-ZERO
-returns-then-b-lt-ZERO c = known-below (c.args.word.now) c.loop-i.i (omega arith) c.if-b-lt-ZERO.true ∙ c.loop-i.invariant.1
+returns-then-b-lt-ZERO c = known-below c.args.word.now c.loop-i.i (omega arith) c.if-b-lt-ZERO.true ∙ c.loop-i.invariant.1
 
 -- a byte above the digits
 pub returns-then-b-gt-NINE : goal.returns-then-b-gt-NINE
-returns-then-b-gt-NINE c = known-above (c.args.word.now) c.loop-i.i (omega arith) c.if-b-gt-NINE.true ∙ c.loop-i.invariant.1
+returns-then-b-gt-NINE c = known-above c.args.word.now c.loop-i.i (omega arith) c.if-b-gt-NINE.true ∙ c.loop-i.invariant.1
 
 pub loop-i-preserved : goal.loop-i-preserved
 loop-i-preserved c =
-    let more = known_more (c.args.word.now) c.loop-i.i (omega arith) c.if-b-lt-ZERO.false c.if-b-gt-NINE.false in
+    let more = known_more c.args.word.now c.loop-i.i (omega arith) c.if-b-lt-ZERO.false c.if-b-gt-NINE.false in
     (omega arith, more ∙ c.loop-i.invariant.1)
 
 -- digits to the end
 pub returns : goal.returns
-returns c = known-end (c.args.word.now) c.loop-i.i (omega arith) ∙ c.loop-i.invariant.1
+returns c = known-end c.args.word.now c.loop-i.i (omega arith) ∙ c.loop-i.invariant.1

@@ -20,7 +20,7 @@ put_number-last-requires t c = (omega arith, omega (arith, length-decimal-more c
 
 pub put_byte-requires-2 : goal.put_byte-requires-2
 put_byte-requires-2 t c =
-    omega (arith, length-decimal-more c.args.n c.if-n-lt10.false, c.put_number-last.ensures.end, c.put_number-last.auto.out)
+    omega (arith, length-decimal-more c.args.n c.if-n-lt10.false)
 
 pub returns : goal.returns
 returns t c =
