@@ -103,6 +103,23 @@ def end_of_atom(text, at):
     return it.end() if it else end
 
 
+def without_known(text):
+    """`omega` reads every field of `c`, so a list need not name one; nor do a path and what has brackets want brackets."""
+    text = re.sub(r"\((c\.[\w'.-]+)\)", r"\1", text)
+    at = text.find("((")
+    while at >= 0:
+        end = end_of_atom(text, at + 1)
+        if text[end - 1 : end + 1] == "))":
+            text = text[:at] + text[at + 1 : end] + text[end + 1 :]
+        else:
+            at += 1
+        at = text.find("((", at)
+    known = re.compile(r"(omega \([^()]*?),\s*c\.[\w'.-]+(?=\s*[,)])")
+    while known.search(text):
+        text = known.sub(r"\1", text)
+    return re.sub(r"omega \(\s*arith,?\s*\)", "omega arith", text)
+
+
 def without_places(text):
     """Every way to a place before this one is `c`, and so is each name for one."""
     before = None
@@ -183,7 +200,7 @@ class Function:
         elif it:
             self.values[item.name] = (item, it.group(1))
         elif re.match(r"\(\S+ : tie\.[^)]*\)\s*→", kind):
-            self.facts[item.name] = (item, *re.match(r"\((\S+) : tie\.[^)]*\)\s*→\s*(.*)$", kind).groups())
+            self.facts[item.name] = item
         else:
             self.lemmas.append(item)
 
@@ -206,7 +223,7 @@ class Function:
                 bound = [(arg, re.match(r"\(\S+ : (.*)\)$", one)) for arg, one in zip(args[1:], kinds)]
                 term = "λ " + " ".join(f"({arg} : {it.group(1) if it else one})" for (arg, it), one in zip(bound, kinds)) + ". " + term
             text = in_place_of(text, name, term if re.fullmatch(r"[\w'.-]+", term) else f"({term})")
-        for name, (item, place, kind) in self.facts.items():
+        for name, item in self.facts.items():
             clause = item.clause()
             if clause is None or not re.search(word(name), text):
                 continue
@@ -214,8 +231,7 @@ class Function:
             term = self.written_out(re.sub(word(args[0]), "c", body), depth + 1).strip()
             if len(args) > 1:
                 term = "λ " + " ".join(args[1:]) + ". " + term
-            kind = self.written_out(re.sub(word(place), "c", kind), depth + 1).strip()
-            text = in_place_of(text, name, f"(let it : {kind} = {term} in it)")
+            text = in_place_of(text, name, f"({term})")
         return text
 
     def steps(self, place):
@@ -287,7 +303,9 @@ class Function:
                 if not re.match(r"omega|search", body.strip()) and "same" not in old:
                     self.say("no goal", old)
                 continue
-            body = self.renamed(self.written_out(re.sub(word(args[0]), "c", body)), goal[1]).rstrip()
+            body = without_known(self.renamed(self.written_out(re.sub(word(args[0]), "c", body)), goal[1])).rstrip()
+            if body.strip() == "omega arith":
+                continue
             between = "\n    " if "\n" in body and not body.startswith("\n") else " "
             lines = [*item.comments, f"pub {goal[0]} : goal.{goal[0]}", *([item.unfolding] if item.unfolding else []), f"{goal[0]} c ={between}{body}"]
             answers.append("\n".join(lines))
