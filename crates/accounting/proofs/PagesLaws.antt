@@ -1,5 +1,6 @@
 -- Own pages and running sums changed together: after n pages more and m less in one group the sums above it are the usage.
 -- Once for what comes and what goes. Assumes nothing.
+use Rattle.std.specs.Prelude.{Ok}
 use Prim.Native.Nat.{ℕ, ◌+◌, ◌-◌, ◌≤◌, ◌<◌}
 use native.Mathlib.Omega.{arith}
 use mathlib.Core.Bool.{Bool}
@@ -12,7 +13,6 @@ use Rattle.model.specs.Hierarchy.{inside, usage}
 use Rattle.model.specs.Calls.{Call, verdict}
 use Rattle.model.specs.Effects.{effect}
 use Rattle.model.specs.declared.Resource.TheVariants.{Pages, Processes}
-use Rattle.model.specs.declared.Answer.TheVariants.{Done}
 use Rattle.model.proofs.FunctionLaws.{upd-keeps, upd-map}
 use Rattle.model.proofs.AmountLaws.{usage-after-adjust, population-same, own-within-usage}
 use Rattle.tree.specs.Layout.{view, sum_in}
@@ -23,7 +23,6 @@ use Rattle.tree.specs.Calling.{Applied}
 use Rattle.tree.specs.declared.sum.Counter.{Counter}
 use Rattle.tree.specs.declared.sum.Counter.TheVariants.{Of, Children, Members, Zombies}
 use Rattle.tree.proofs.KeptLaws.{own-small, adjustable}
-use Rattle.tree.proofs.AdjustLaws.{counters-apart}
 use Rattle.tree.proofs.CountLaws.{children-same, zombies-same}
 use Rattle.tree.proofs.RoomCallLaws.{sum-after-adjust}
 use Rattle.tree.proofs.CallLaws.{applied-as}
@@ -81,17 +80,17 @@ module _ (xs : List ℕ) (g n m : ℕ) (p : PagesAdjustable xs g n m) where
         wrote.sums (Of Pages) a ∙ same
         ∙ ap (λ (k : ℕ → Core). usage k a) (sym (upd-map (λ (x : Group). x.core) (view xs).group g _))
     sums-after (Of Processes) a =
-        wrote.sums (Of Processes) a ∙ adjusted.other (Of Processes) (counters-apart (Of Processes) (Of Pages) (λ e. omega arith)) a
+        wrote.sums (Of Processes) a ∙ adjusted.other (Of Processes) (λ e. cc) a
         ∙ p.home.kept.sums (Of Processes) a
         ∙ sym (population-same (cores (view xs)) (cores (pages_set (view xs) g n m)) (places (view xs)) (kept_by (λ x. x.core.parent) refl) a)
     sums-after Members a =
-        wrote.sums Members a ∙ adjusted.other Members (counters-apart Members (Of Pages) (λ e. omega arith)) a ∙ p.home.kept.sums Members a
+        wrote.sums Members a ∙ adjusted.other Members (λ e. cc) a ∙ p.home.kept.sums Members a
     sums-after Zombies a =
-        wrote.sums Zombies a ∙ adjusted.other Zombies (counters-apart Zombies (Of Pages) (λ e. omega arith)) a
+        wrote.sums Zombies a ∙ adjusted.other Zombies (λ e. cc) a
         ∙ p.home.kept.sums Zombies a
         ∙ sym (zombies-same (cores (view xs)) (cores (pages_set (view xs) g n m)) (view xs).past (kept_by (λ x. x.core.parent) refl) (kept_by (λ x. x.core.live) refl) a)
     sums-after Children a =
-        wrote.sums Children a ∙ adjusted.other Children (counters-apart Children (Of Pages) (λ e. omega arith)) a
+        wrote.sums Children a ∙ adjusted.other Children (λ e. cc) a
         ∙ p.home.kept.sums Children a
         ∙ sym (children-same (cores (view xs)) (cores (pages_set (view xs) g n m)) (kept_by (λ x. x.core.parent) refl) (kept_by (λ x. x.core.live) refl) a)
 
@@ -100,7 +99,7 @@ module _ (xs : List ℕ) (g n m : ℕ) (p : PagesAdjustable xs g n m) where
         record { long = wrote.long; tree = pages-tree; sums = sums-after; spare = wrote.spare (adjusted.spare p.home.kept.spare) }
 
 -- An accepted call whose effect is such a change.
-pub applied-pages : (xs ys : List ℕ) (c : Call) (g n m : ℕ) → Kept xs → verdict (view xs) c ≡ Done → PagesAdjusted xs ys g n m
+pub applied-pages : (xs ys : List ℕ) (c : Call) (g n m : ℕ) → Kept xs → verdict (view xs) c ≡ (Ok tt) → PagesAdjusted xs ys g n m
     → effect (view xs) c ≡ pages_set (view xs) g n m → Applied xs ys c
 applied-pages xs ys c g n m k v p e =
     applied-as xs k c v ys (pages_set (view xs) g n m) e p

@@ -2,7 +2,7 @@
 -- one pass over the groups for all that leave. Assumes nothing.
 use Prim.Native.Nat.{ℕ, zero, suc, ◌-◌, ◌≤◌, ◌<◌}
 use native.Mathlib.Omega.{arith}
-use mathlib.Core.Bool.{Bool, true, false, ◌&&◌}
+use mathlib.Core.Bool.{Bool, true, false, ◌&&◌, ◌||◌}
 use mathlib.Core.List.{List, [], ◌∷◌}
 use mathlib.Core.Path.{◌≡◌, refl, ap, sym, ◌∙◌, fun_ext}
 use Rattle.model.specs.Functions.{any}
@@ -13,37 +13,30 @@ use Rattle.model.specs.Control.{any_in, any_controller}
 use Rattle.model.specs.Rules.{held_by_child}
 use Rattle.model.specs.declared.Controller.{Controller}
 use Rattle.model.proofs.ControlLaws.{any-controller-none}
-use Rattle.control.specs.Flags.{holds_any, child_holds_any, is_any_held}
-use Rattle.control.proofs.FlagLaws.{last-not}
-
--- ---- a search through the numbers below a bound, from the last one down
-module _ (f : ℕ → Bool) (left : ℕ) where
-  before : 0 < left → left ≡ suc (left - 1)
-  before h = omega arith
-
-  pub any_here : 0 < left → f (left - 1) ≡ true → true ≡ any left f
-  unfolding any
-  any_here h y = rw (before h, any) (go (left - 1) y)
-    where
-      go : (k : ℕ) → f k ≡ true → true ≡ any (suc k) f
-      go k y = rw (y, any)
-
-  pub any_next : 0 < left → f (left - 1) ≡ false → any (left - 1) f ≡ any left f
-  unfolding any
-  any_next h n = go (left - 1) n ∙ ap (λ k. any k f) (sym (before h))
-    where
-      go : (k : ℕ) → f k ≡ false → any k f ≡ any (suc k) f
-      go k n = rw (n, any)
-
-  pub any-end : left ≤ 0 → false ≡ any left f
-  unfolding any
-  any-end h = let z : left ≡ 0 = omega arith in rw z
-
--- ---- two searches
+use Rattle.control.specs.Flags.{child_holds_any, is_any_held}
 
 -- the first or the second, as `any` and `any_in` have it
 abbrev or : Bool → Bool → Bool
 or a b = elim a [ true ↦ true | false ↦ b ]
+
+as-or : (a b : Bool) → or a b ≡ (a || b)
+as-or true b = refl
+as-or false b = refl
+
+-- ---- a search through the numbers below a bound, from the last one down
+module _ (f : ℕ → Bool) (left : ℕ) where
+  pub any_last : 0 < left → any left f ≡ (f (left - 1) || any (left - 1) f)
+  unfolding any
+  any_last h = let e : left ≡ suc (left - 1) = omega arith in ap (λ k. any k f) e ∙ go (left - 1)
+    where
+      go : (k : ℕ) → any (suc k) f ≡ (f k || any k f)
+      go k = as-or (f k) (any k f)
+
+  pub any_end : left ≤ 0 → any left f ≡ false
+  unfolding any
+  any_end h = let z : left ≡ 0 = omega arith in rw z
+
+-- ---- two searches
 
 module _ (leaving : Controls) where
   -- ---- the controllers of a list
@@ -51,7 +44,11 @@ module _ (leaving : Controls) where
   any-in-never : (cs : List Controller) → false ≡ any_in (λ c. leaving c && false) cs
   unfolding any_in
   any-in-never [] = refl
-  any-in-never (c ∷ cs) = any-in-never cs ∙ ap (λ b. or b (any_in (λ c'. leaving c' && false) cs)) (last-not (leaving c) false refl)
+  any-in-never (c ∷ cs) = any-in-never cs ∙ ap (λ b. or b (any_in (λ c'. leaving c' && false) cs)) (go (leaving c))
+    where
+      go : (b : Bool) → false ≡ (b && false)
+      go true = refl
+      go false = refl
 
   any-in-either : (p q : Controls) (cs : List Controller)
       → or (any_in (λ c. leaving c && p c) cs) (any_in (λ c. leaving c && q c) cs) ≡ any_in (λ c. leaving c && or (p c) (q c)) cs
@@ -83,12 +80,12 @@ module _ (leaving : Controls) where
 
   -- ---- the groups
 
-  pub none-held : any_controller leaving ≡ false → (t : Tree) (g : ℕ) → false ≡ is_any_held t g leaving
+  pub none_held : any_controller leaving ≡ false → (t : Tree) (g : ℕ) → false ≡ is_any_held t g leaving
   unfolding any_in
-  none-held n t g = ap (is_any_held t g) (sym (fun_ext (any-controller-none leaving n)))
+  none_held n t g = ap (is_any_held t g) (sym (fun_ext (any-controller-none leaving n)))
 
-  pub held-in-one-pass : (t : Tree) (g : ℕ) → any groups (child_holds_any t g leaving) ≡ is_any_held t g leaving
-  unfolding held_by_child child_holds_any holds_any
-  held-in-one-pass t g =
+  pub held_in_one_pass : (t : Tree) (g : ℕ) → any groups (child_holds_any t g leaving) ≡ is_any_held t g leaving
+  unfolding held_by_child child_holds_any
+  held_in_one_pass t g =
       ap (any groups) (fun_ext (λ k. any-in-if (child_of g k (cores t k)) (sets t k) _))
       ∙ any-in-any groups (λ c k. child_of g k (cores t k) && sets t k c) _

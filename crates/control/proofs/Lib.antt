@@ -1,6 +1,5 @@
 pub mod FlagLaws
 pub mod HeldLaws
-pub mod VetLaws
 pub mod WroteLaws
 pub mod ResetLaws
 pub mod ValueLaws

@@ -11,46 +11,34 @@ use lib.ListN.{length}
 use borrow.Author.Tests.{ltb-true, ltb-false, lt-ltb, le-ltb}
 use Rattle.model.specs.Functions.{upd, pick}
 use Rattle.model.specs.Sizes.{groups}
-use Rattle.model.specs.Tree.{Tree, Core, Group, Controls, default_cpu, with_cpu, with_io, with_amounts, with_limit, with_set, with_settings, settings_of, cores, lives}
-use Rattle.model.specs.Devices.{DeviceLimits}
+use Rattle.model.specs.Tree.{Tree, Core, Group, Controls, default_cpu, with_amounts, with_limit, with_set, with_settings, settings_of, cores, lives, at_group}
 use Rattle.model.specs.Hierarchy.{child_of}
-use Rattle.model.specs.Control.{any_controller}
+use Rattle.model.specs.Control.{any_controller, at_controller}
 use Rattle.model.specs.Settings.{reset}
 use Rattle.model.specs.Effects.{reset_child, controlled}
+use Rattle.model.specs.declared.Controller.{Controller}
+use Rattle.model.specs.declared.Controller.TheVariants.{Cpu, Io, Memory, Pids}
 use Rattle.model.specs.declared.Resource.{Resource}
 use Rattle.model.specs.declared.Resource.TheVariants.{Pages, Processes}
 use Rattle.model.specs.declared.Limit.TheVariants.{NoLimit}
 use Rattle.model.proofs.FunctionLaws.{split, whether, upd_same, upd_other, upd-keeps}
 use Rattle.model.proofs.ControlLaws.{any-controller-none}
 use Rattle.model.proofs.ControlPreservation.{child-live, reset-child, reset-other}
-use Rattle.devices.specs.Slots.{table_of, Packed, rows, no_slots}
-use Rattle.devices.specs.declared.table.Slots.{Slots}
+use Rattle.devices.specs.Slots.{table_of, Packed, no_slots}
+use Rattle.devices.specs.declared.slot.Slot.{Slot}
 use Rattle.devices.proofs.TableLaws.{packed_none}
-use Rattle.tree.specs.Layout.{tree_words, view}
+use Rattle.tree.specs.Layout.{tree_words, controls_of, view}
 use Rattle.tree.specs.Changes.{Wrote, controls_set}
 use Rattle.tree.specs.Kept.{Kept}
-use Rattle.control.specs.Flags.{flag_of}
 use Rattle.control.specs.Stores.{with_groups, changed_at, cpu_reset, io_reset, limit_reset, Ranged, children_reset}
-use Rattle.control.specs.declared.flags.Flags.{Flags}
+use Rattle.model.specs.declared.PerController.{PerController}
 use Rattle.control.proofs.WroteLaws.{wrote_as, same-groups, wrote-group-as, wrote_none, wrote_then}
 
 -- ---- the settings of one controller
 
-module _ (v : Group) (gone : Bool) where
-  pub cpu-kept : gone ≡ false → v ≡ cpu_reset gone v
-  cpu-kept e = rw e
-
-  pub cpu-gone : gone ≡ true → with_settings (with_cpu default_cpu (settings_of v)) v ≡ cpu_reset gone v
-  cpu-gone e = rw e
-
-  pub io-kept : gone ≡ false → v ≡ io_reset gone v
-  io-kept e = rw e
-
-  pub io-gone : (xs : List DeviceLimits) → xs ≡ [] → gone ≡ true → with_settings (with_io xs (settings_of v)) v ≡ io_reset gone v
-  io-gone xs d e = rw (d, e)
-
-  pub limit-kept : (r : Resource) → gone ≡ false → v ≡ limit_reset r gone v
-  limit-kept r e = rw e (ap (λ l. with_settings (with_amounts l (settings_of v)) v) (fun_ext (same r)))
+module _ (v : Group) where
+  pub limit-kept : (r : Resource) → v ≡ limit_reset r false v
+  limit-kept r = ap (λ l. with_settings (with_amounts l (settings_of v)) v) (fun_ext (same r))
     where
       same : (r q : Resource) → v.core.limit q ≡ with_limit r (v.core.limit r) v.core.limit q
       same Pages Pages = refl
@@ -58,24 +46,20 @@ module _ (v : Group) (gone : Bool) where
       same Processes Pages = refl
       same Processes Processes = refl
 
-  pub limit-gone : (r : Resource) → gone ≡ true
-      → with_settings (with_amounts (with_limit r NoLimit v.core.limit) (settings_of v)) v ≡ limit_reset r gone v
-  limit-gone r e = rw e
-
 -- no device in a table of four free slots
-module _ (s : Slots) (e : s ≡ no_slots) where
-  pub no-slots-table : table_of (rows s) ≡ []
+module _ {s : List Slot} (e : s ≡ no_slots) where
+  pub no-slots-table : table_of s ≡ []
   unfolding table_of
   no-slots-table = rw e
 
-  pub no-slots-packed : Packed (rows s)
-  no-slots-packed = subst (λ (x : Slots). Packed (rows x)) (sym e) packed_none
+  pub no-slots-packed : Packed s
+  no-slots-packed = subst Packed (sym e) packed_none
 
 -- ---- a child
 
-reset-each : (gone : Flags) (v : Group)
+reset-each : (gone : PerController Bool) (v : Group)
     → limit_reset Processes gone.pids (limit_reset Pages gone.memory (io_reset gone.io (cpu_reset gone.cpu v)))
-    ≡ with_settings (reset (flag_of gone) (settings_of v)) v
+    ≡ with_settings (reset (at_controller gone) (settings_of v)) v
 unfolding reset
 reset-each gone v =
     ap (λ l. with_settings (record { limit = l; cpu = pick gone.cpu default_cpu v.cpu; io = pick gone.io [] v.io }) v) (fun_ext go)
@@ -83,23 +67,23 @@ reset-each gone v =
     go : (r : Resource)
         → with_limit Processes (pick gone.pids NoLimit (v.core.limit Processes))
         (with_limit Pages (pick gone.memory NoLimit (v.core.limit Pages)) v.core.limit) r
-        ≡ (reset (flag_of gone) (settings_of v)).limit r
+        ≡ (reset (at_controller gone) (settings_of v)).limit r
     go Pages = refl
     go Processes = refl
 
-module _ (xs : List ℕ) (g k : ℕ) (gone : Flags) where
+module _ (xs : List ℕ) (g k : ℕ) (gone : PerController Bool) where
   pub wrote-no-child : length xs ≡ tree_words → child_of g k (cores (view xs) k) ≡ false
-      → Wrote xs xs (changed_at (view xs) k (reset_child (view xs) g (flag_of gone) k))
-  wrote-no-child l n = wrote_none xs k l (sym (reset-other (view xs) g (flag_of gone) k ((view xs).group k) n))
+      → Wrote xs xs (changed_at (view xs) k (reset_child (view xs) g (at_controller gone) k))
+  wrote-no-child l n = wrote_none xs k l (sym (reset-other (view xs) g (at_controller gone) k ((view xs).group k) n))
 
   pub wrote-child : (as' bs cs ys : List ℕ) → child_of g k (cores (view xs) k) ≡ true
       → Wrote xs as' (changed_at (view xs) k (cpu_reset gone.cpu))
       → Wrote as' bs (changed_at (view as') k (io_reset gone.io))
       → Wrote bs cs (changed_at (view bs) k (limit_reset Pages gone.memory))
       → Wrote cs ys (changed_at (view cs) k (limit_reset Processes gone.pids))
-      → Wrote xs ys (changed_at (view xs) k (reset_child (view xs) g (flag_of gone) k))
+      → Wrote xs ys (changed_at (view xs) k (reset_child (view xs) g (at_controller gone) k))
   wrote-child as' bs cs ys y p i q s =
-      wrote-group-as xs k (reset-each gone ((view xs).group k) ∙ sym (reset-child (view xs) g (flag_of gone) k ((view xs).group k) y))
+      wrote-group-as xs k (reset-each gone ((view xs).group k) ∙ sym (reset-child (view xs) g (at_controller gone) k ((view xs).group k) y))
       (wrote_then xs k cs ys _ (limit_reset Processes gone.pids)
       (wrote_then xs k bs cs _ (limit_reset Pages gone.memory) (wrote_then xs k as' bs _ (io_reset gone.io) p i) q) s)
 
@@ -192,29 +176,42 @@ module _ (xs : List ℕ) (g : ℕ) (gone : Controls) where
 
 -- ---- the set, and then the children
 
-module _ (xs ys : List ℕ) (g : ℕ) (set : Flags)
-    (p : Wrote xs ys (controls_set (view xs) g set.cpu set.io set.memory set.pids)) where
+module _ (xs ys : List ℕ) (g : ℕ) (set : PerController Bool)
+    (p : Wrote xs ys (controls_set (view xs) g set)) where
   abbrev set_first : ℕ → Group
-  set_first = upd (view xs).group g (with_set (flag_of set) ((view xs).group g))
+  set_first = upd (view xs).group g (with_set (at_controller set) ((view xs).group g))
 
   core-kept : (k : ℕ) → (set_first k).core ≡ ((view xs).group k).core
-  core-kept k = upd-keeps (λ v. v.core) (view xs).group g (with_set (flag_of set) ((view xs).group g)) refl k
+  core-kept k = upd-keeps (λ v. v.core) (view xs).group g (with_set (at_controller set) ((view xs).group g)) refl k
+
+  controls_same : controls_of set.cpu set.io set.memory set.pids ≡ at_controller set
+  controls_same = fun_ext go
+    where
+      go : (c : Controller) → controls_of set.cpu set.io set.memory set.pids c ≡ at_controller set c
+      go Cpu = refl
+      go Io = refl
+      go Memory = refl
+      go Pids = refl
+
+  tree-set : view ys ≡ at_group (view xs) g (with_set (at_controller set) ((view xs).group g))
+  tree-set = p.tree ∙ ap (λ (s : Controls). at_group (view xs) g (with_set s ((view xs).group g))) controls_same
 
   pub ranged-after-set : Ranged xs → Ranged ys
   ranged-after-set q =
       record {
         long = p.long;
         range = λ k l.
-            q.range k (sym (ap (λ c. c.live) (core-kept k)) ∙ sym (ap (λ (t : Tree). lives t k) p.tree) ∙ l);
+            q.range k (sym (ap (λ c. c.live) (core-kept k)) ∙ sym (ap (λ (t : Tree). lives t k) tree-set) ∙ l);
       }
 
   pub set-then-reset : (zs : List ℕ) (gone : Controls) → Wrote ys zs (children_reset (view ys) g gone)
-      → Wrote xs zs (controlled (view xs) g (flag_of set) gone)
+      → Wrote xs zs (controlled (view xs) g (at_controller set) gone)
   set-then-reset zs gone q =
       record {
         long = q.long;
         tree =
-            q.tree ∙ ap (λ (t : Tree). children_reset t g gone) p.tree
+            q.tree
+            ∙ ap (λ (t : Tree). children_reset t g gone) tree-set
             ∙ same-groups (view xs) (λ k. ap (λ (c : Core). reset_by g gone k c (set_first k)) (core-kept k));
         sums = λ c h. q.sums c h ∙ p.sums c h;
         spare = λ s. q.spare (p.spare s);

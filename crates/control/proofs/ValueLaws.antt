@@ -1,10 +1,10 @@
 -- A value: what can be stored of it, what its stores make of a group, and that there is room for all but a device. Assumes nothing.
+use Rattle.std.specs.Prelude.{Some, Ok}
 use Prim.Native.Nat.{ℕ}
 use native.Mathlib.Omega.{arith}
-use mathlib.Core.Bool.{Bool, true}
+use mathlib.Core.Bool.{true}
 use mathlib.Core.List.{List}
-use mathlib.Core.Option.{some}
-use mathlib.Core.Path.{◌≡◌, refl, sym, subst}
+use mathlib.Core.Path.{◌≡◌, ap, sym}
 use borrow.Author.Tests.{le-leb}
 use Rattle.model.specs.Functions.{All}
 use Rattle.model.specs.Sizes.{most_devices}
@@ -18,14 +18,13 @@ use Rattle.model.specs.declared.Limit.TheVariants.{NoLimit, Figure}
 use Rattle.model.specs.declared.Setting.TheVariants.{CpuMax}
 use Rattle.model.specs.declared.SettingValue.{SettingValue}
 use Rattle.model.specs.declared.SettingValue.TheVariants.{Weight, Quota, Bandwidth, Maximum}
-use Rattle.model.proofs.FunctionLaws.{clash}
 use Rattle.model.proofs.FigureLaws.{between_le}
 use Rattle.model.proofs.SettingLaws.{range-of-quota}
 use Rattle.tree.specs.Layout.{view}
 use Rattle.devices.specs.LimitWords.{Storable}
 use Rattle.tree.specs.Changes.{GroupRow, Wrote}
 use Rattle.control.specs.Stores.{changed_at}
-use Rattle.control.specs.Values.{Settable, Stored}
+use Rattle.control.specs.Values.{Settable, Stored, store_answer}
 
 -- ---- what can be stored
 
@@ -73,22 +72,22 @@ cpu-assigned v n q p = with_settings (with_cpu (record { weight = n; quota = q; 
 
 module _ (v : Group) (value : SettingValue) where
   pub weight-written : (n : ℕ) (q : Limit) (p : ℕ) → value ≡ Weight n → q ≡ v.cpu.quota → p ≡ v.cpu.period
-      → cpu-assigned v n q p ≡ written (some value) v
+      → cpu-assigned v n q p ≡ written (Some value) v
   unfolding assign
   weight-written n q p e f h = rw (e, f, h)
 
   pub quota-written : (n : ℕ) (q : Limit) (p : ℕ) → value ≡ Quota q → n ≡ v.cpu.weight → p ≡ v.cpu.period
-      → cpu-assigned v n q p ≡ written (some value) v
+      → cpu-assigned v n q p ≡ written (Some value) v
   unfolding assign
   quota-written n q p e f h = rw (e, f, h)
 
   pub bandwidth-written : (n : ℕ) (q : Limit) (p : ℕ) → value ≡ Bandwidth q p → n ≡ v.cpu.weight
-      → cpu-assigned v n q p ≡ written (some value) v
+      → cpu-assigned v n q p ≡ written (Some value) v
   unfolding assign
   bandwidth-written n q p e f = rw (e, f)
 
   pub limit-written : (r : Resource) (l m : Limit) → value ≡ Maximum r l → m ≡ map_limit (to_amount r) l
-      → with_settings (with_amounts (with_limit r m v.core.limit) (settings_of v)) v ≡ written (some value) v
+      → with_settings (with_amounts (with_limit r m v.core.limit) (settings_of v)) v ≡ written (Some value) v
   unfolding assign
   limit-written r l m e f = rw (e, f)
 
@@ -112,20 +111,11 @@ module _ (v : SettingValue) (st : Settings) where
   limit-io r l e = rw e
 
 module _ (xs : List ℕ) (g : ℕ) (value : SettingValue) (k : Settable xs g value) where
-  -- the value that was matched
-  pub settable-as : {v : SettingValue} → value ≡ v → Settable xs g v
-  settable-as e = subst (Settable xs g) e k
-
-  pub stored-as : {v : SettingValue} → value ≡ v → (ys : List ℕ) (r : Bool) → Stored xs ys g v r → Stored xs ys g value r
-  stored-as e ys r s = subst (λ (v : SettingValue). Stored xs ys g v r) (sym e) s
-
   -- a value that leaves the devices as they are finds room
-  pub stored-with-room : (ys : List ℕ) → (assign value (settings_at (view xs) g)).io ≡ (settings_at (view xs) g).io
-      → Wrote xs ys (changed_at (view xs) g (written (some value))) → Stored xs ys g value true
+  finds-room : (assign value (settings_at (view xs) g)).io ≡ (settings_at (view xs) g).io → has_room (settings_at (view xs) g) value ≡ true
   unfolding has_room
-  stored-with-room ys e w =
-      record {
-        room = sym (rw e (le-leb _ most_devices (k.at.kept.formed.ranges.within g k.at.live).table.few));
-        done = λ _. w;
-        same = λ n. clash true refl n;
-      }
+  finds-room e = rw e (le-leb _ most_devices (k.at.kept.formed.ranges.within g k.at.live).table.few)
+
+  pub stored-with-room : (ys : List ℕ) → (assign value (settings_at (view xs) g)).io ≡ (settings_at (view xs) g).io
+      → Wrote xs ys (changed_at (view xs) g (written (Some value))) → Stored xs ys g value (Ok tt)
+  stored-with-room ys e w = record { room = sym (ap store_answer (finds-room e)); done = λ _. w; same = λ n. cc }

@@ -1,65 +1,46 @@
 // Whether a controller that leaves a group's set is in the set of a live child: one pass over the groups, however many leave.
-ghost use Rattle.std.specs.Prelude.{◌≡◌, ◌&&◌, ◌<◌};
+ghost use Rattle.std.specs.Prelude.{◌≡◌, ◌<◌};
 ghost use Rattle.model.specs.Sizes.{groups};
-ghost use Rattle.model.specs.Tree.{sets};
+ghost use Rattle.model.specs.Control.{at_controller};
 ghost use Rattle.tree.specs.Layout.{view};
-ghost use Rattle.control.specs.Flags.{flag_of, holds_any, child_holds_any, is_any_held};
+ghost use Rattle.control.specs.Flags.{EachFlag, held, child_holds_any, is_any_held};
 
-use super::flags::{Flags, is_any};
-use model::{Controller, GroupId};
+use super::flags::is_any;
+use model::{GroupId, PerController};
 use tree::group::has;
 use tree::layout::{GROUPS, Tree};
 use tree::rule::is_child;
 
-// Whether group k has a controller in its set, asked only where it leaves.
-fn holds(t: &Tree, k: GroupId, c: Controller, leaving: bool) -> bool
+// Those that leave and that group k has in its set, which is asked only of what leaves.
+fn held(t: &Tree, k: GroupId, leaving: PerController<bool>) -> PerController<bool>
     requires { k.0 < groups }
-    ensures { result ≡ (leaving && sets (view t.now) k.0 c) }
+    ensures { EachFlag result (held (view t.now) (at_controller leaving) k.0) }
 {
-    if !leaving {
-        return false;
-    }
-    has(t, k, c)
+    PerController::from_fn(|c| leaving.get(c) && has(t, k, c))
 }
 
-// Whether group k has one of those that leave in its set.
-fn holds_any(t: &Tree, k: GroupId, leaving: Flags) -> bool
+// Whether there is one, and group k is a live child of g.
+#[tactic(auto, using(crate::proofs::FlagLaws::any_each), unfolding(crate::specs::Flags::child_holds_any))]
+fn child_holds_any(t: &Tree, g: GroupId, k: GroupId, leaving: PerController<bool>) -> bool
     requires { k.0 < groups }
-    ensures { result ≡ holds_any (view t.now) (flag_of leaving) k.0 }
+    ensures { result ≡ child_holds_any (view t.now) g.0 (at_controller leaving) k.0 }
 {
-    is_any(Flags {
-        cpu: holds(t, k, Controller::Cpu, leaving.cpu),
-        io: holds(t, k, Controller::Io, leaving.io),
-        memory: holds(t, k, Controller::Memory, leaving.memory),
-        pids: holds(t, k, Controller::Pids, leaving.pids),
-    })
-}
-
-// The same, if group k is a live child of g.
-fn child_holds_any(t: &Tree, g: GroupId, k: GroupId, leaving: Flags) -> bool
-    requires { k.0 < groups }
-    ensures { result ≡ child_holds_any (view t.now) g.0 (flag_of leaving) k.0 }
-{
-    if !is_child(t, g, k) {
-        return false;
-    }
-    holds_any(t, k, leaving)
+    is_child(t, g, k) && is_any(held(t, k, leaving))
 }
 
 // Whether one of those that leave is in the set of a live child of g. No pass over the groups where none leaves.
-pub fn is_any_held(t: &Tree, g: GroupId, leaving: Flags) -> bool
-    ensures { result ≡ is_any_held (view t.now) g.0 (flag_of leaving) }
+#[tactic(auto, using(crate::proofs::HeldLaws::any_last, crate::proofs::HeldLaws::any_end, crate::proofs::HeldLaws::none_held, crate::proofs::HeldLaws::held_in_one_pass))]
+pub fn is_any_held(t: &Tree, g: GroupId, leaving: PerController<bool>) -> bool
+    ensures { result ≡ is_any_held (view t.now) g.0 (at_controller leaving) }
 {
     if !is_any(leaving) {
         return false;
     }
-    let mut left = GROUPS;
-    while 0 < left {
-        let k = left - 1;
-        if child_holds_any(t, GroupId(g.0), GroupId(k), leaving) {
+    // a loop in place of `(0..GROUPS).rev().any(..)`: the proof of that did not close
+    for k in (0..GROUPS).rev() {
+        if child_holds_any(t, g, GroupId(k), leaving) {
             return true;
         }
-        left = k;
     }
     false
 }

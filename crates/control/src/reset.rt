@@ -2,12 +2,12 @@
 ghost use Rattle.model.specs.Effects.{controlled};
 ghost use Rattle.tree.specs.Layout.{view};
 ghost use Rattle.tree.specs.Changes.{GroupRow, Wrote};
-ghost use Rattle.control.specs.Flags.{flag_of};
+ghost use Rattle.model.specs.Control.{at_controller};
 ghost use Rattle.control.specs.Stores.{changed_at, cpu_reset, io_reset, limit_reset, Ranged, child_reset, children_reset};
 
-use super::flags::{Flags, is_any};
+use super::flags::is_any;
 use devices::table::empty;
-use model::{GroupId, Limit, Resource};
+use model::{GroupId, Limit, PerController, Resource};
 use tree::device::set_slots;
 use tree::group::set_controls;
 use tree::layout::{GROUPS, Tree};
@@ -19,10 +19,9 @@ fn reset_cpu(t: &mut Tree, k: GroupId, gone: bool)
     requires { GroupRow t.old k.0 }
     ensures { Wrote t.old t.new (changed_at (view t.old) k.0 (cpu_reset gone)) }
 {
-    if !gone {
-        return;
+    if gone {
+        set_cpu(t, k, DEFAULT_WEIGHT, Limit::NoLimit, DEFAULT_PERIOD);
     }
-    set_cpu(t, k, DEFAULT_WEIGHT, Limit::NoLimit, DEFAULT_PERIOD);
 }
 
 // No device in io.max of a group, where io is gone.
@@ -30,10 +29,9 @@ fn reset_io(t: &mut Tree, k: GroupId, gone: bool)
     requires { GroupRow t.old k.0 }
     ensures { Wrote t.old t.new (changed_at (view t.old) k.0 (io_reset gone)) }
 {
-    if !gone {
-        return;
+    if gone {
+        set_slots(t, k, empty());
     }
-    set_slots(t, k, empty());
 }
 
 // No limit of a resource in a group, where its controller is gone.
@@ -41,16 +39,15 @@ fn reset_limit(t: &mut Tree, k: GroupId, r: Resource, gone: bool)
     requires { GroupRow t.old k.0 }
     ensures { Wrote t.old t.new (changed_at (view t.old) k.0 (limit_reset r gone)) }
 {
-    if !gone {
-        return;
+    if gone {
+        set_limit(t, k, r, Limit::NoLimit);
     }
-    set_limit(t, k, r, Limit::NoLimit);
 }
 
 // The settings of the controllers that are gone, in group k if it is a live child of g.
-fn reset_child(t: &mut Tree, g: GroupId, k: GroupId, gone: Flags)
+fn reset_child(t: &mut Tree, g: GroupId, k: GroupId, gone: PerController<bool>)
     requires { GroupRow t.old k.0 }
-    ensures { Wrote t.old t.new (child_reset (view t.old) g.0 (flag_of gone) k.0) }
+    ensures { Wrote t.old t.new (child_reset (view t.old) g.0 (at_controller gone) k.0) }
 {
     if !is_child(t, g, k) {
         return;
@@ -62,25 +59,22 @@ fn reset_child(t: &mut Tree, g: GroupId, k: GroupId, gone: Flags)
 }
 
 // The same in every live child of g.
-fn reset_children(t: &mut Tree, g: GroupId, gone: Flags)
+fn reset_children(t: &mut Tree, g: GroupId, gone: PerController<bool>)
     requires { Ranged t.old }
-    ensures { Wrote t.old t.new (children_reset (view t.old) g.0 (flag_of gone)) }
+    ensures { Wrote t.old t.new (children_reset (view t.old) g.0 (at_controller gone)) }
 {
-    let mut k = 0;
-    while k < GROUPS {
-        reset_child(t, GroupId(g.0), GroupId(k), gone);
-        k += 1;
+    for k in 0..GROUPS {
+        reset_child(t, g, GroupId(k), gone);
     }
 }
 
 // The set of g, and the settings of the controllers that are gone from it. No pass over the groups where none is gone.
-pub fn set_and_reset(t: &mut Tree, g: GroupId, set: Flags, gone: Flags)
+pub fn set_and_reset(t: &mut Tree, g: GroupId, set: PerController<bool>, gone: PerController<bool>)
     requires { Ranged t.old × GroupRow t.old g.0 }
-    ensures { Wrote t.old t.new (controlled (view t.old) g.0 (flag_of set) (flag_of gone)) }
+    ensures { Wrote t.old t.new (controlled (view t.old) g.0 (at_controller set) (at_controller gone)) }
 {
-    set_controls(t, g, set.cpu, set.io, set.memory, set.pids);
-    if !is_any(gone) {
-        return;
+    set_controls(t, g, set);
+    if is_any(gone) {
+        reset_children(t, g, gone);
     }
-    reset_children(t, g, gone);
 }

@@ -1,10 +1,10 @@
 -- Demand 2 of the definitions, told by the contracts. Assumes nothing.
+use Rattle.std.specs.Prelude.{Option, Some, None}
 use Prim.Native.Nat.{ℕ}
 use native.Mathlib.Omega.{arith}
 use mathlib.Core.Bool.{true}
 use mathlib.Core.List.{List, [], ◌∷◌, head-eq_of_cons-eq}
 use mathlib.Core.Logic.{◌≢◌}
-use mathlib.Core.Option.{Option, none, some}
 use mathlib.Core.Path.{◌≡◌, refl, ap, ap₂, sym, ◌∙◌, subst}
 use lib.ListN.{length, take, drop}
 use lib.Seq.{take-append_seam}
@@ -74,17 +74,17 @@ module _ {xs ys : List ℕ} {c : Call} {k : ℕ} {told : List ℕ} (r : Resource
       inside-live kept.formed.sound h (process_group t p) (group-lives t kept.formed p)
       (rw (← s.2.here) (member-at (chain (parents t) (process_group t p)) s.0 s.2.place))
 
-  untold : (g : Option ℕ) → (reply (view xs) c).group ≡ g → k ≢ 0 → k ≢ errno_number (shortage r) → told ≡ group_word none ∷ 0 ∷ []
-  untold none f nz ns = words_are none 0 f (counts.other r n p c q (λ z. nz (a.answer ∙ z)) f)
-  untold (some h) f nz ns = absurd (ns (a.answer ∙ (counts.stopped r n p h c q f).0))
+  untold : (g : Option ℕ) → (reply (view xs) c).group ≡ g → k ≢ 0 → k ≢ errno_number (shortage r) → told ≡ group_word None ∷ 0 ∷ []
+  untold None f nz ns = words_are None 0 f (counts.other r n p c q (λ z. nz (a.answer ∙ z)) f)
+  untold (Some h) f nz ns = absurd (ns (a.answer ∙ (counts.stopped r n p h c q f).0))
 
   room-told : RoomTold (view xs) r n p k told
   room-told =
       record {
-        success = λ z. let s = counts.success r n p c q (sym a.answer ∙ z) in words_are none _ s.1 s.0;
+        success = λ z. let s = counts.success r n p c q (sym a.answer ∙ z) in words_are None _ s.1 s.0;
         stopped = λ z.
             let s = counts.named r n p c q (sym a.answer ∙ z) in
-            (s.0, (reply (view xs) c).consulted, words_are (some s.0) _ s.1 refl, s.2, stopped-lives s.0 _ s.2);
+            (s.0, (reply (view xs) c).consulted, words_are (Some s.0) _ s.1 refl, s.2, stopped-lives s.0 _ s.2);
         other = untold (reply (view xs) c).group refl;
         apart = λ h l e. omega (arith, kept.formed.sound.range h l);
       }
@@ -99,7 +99,7 @@ module _ {xs : List ℕ} {n k : ℕ} {buffer bytes : List ℕ} (g : ℕ) (s : Se
   abbrev text : List ℕ
   text = contents (facts_of t) g (Value s)
 
-  named : file_named (setting_name s) ≡ some (Value s)
+  named : file_named (setting_name s) ≡ Some (Value s)
   named = file_named-file_name (Value s)
 
   read-passed : Pass (checks (facts_of t) (read g (setting_name s) buffer))
@@ -174,7 +174,7 @@ module _ {xs ys zs buffer told bytes : List ℕ} {es : List Entry} {n k : ℕ} (
 -- Containment along a run.
 contained-run : {xs ys : List ℕ} {es : List Entry} (user d : ℕ) → user ≢ 0 → (r : Runs xs es ys) → OwnsInside (view xs) user d
     → Along (λ t c u. GivesOutside user d t c → ⊥) r
-    → OwnsInside (view ys) user d × Along (λ t c u. caller c ≡ some user → NoneAcross d t u) r
+    → OwnsInside (view ys) user d × Along (λ t c u. caller c ≡ Some user → NoneAcross d t u) r
 unfolding Along
 contained-run user d nz (start k) own given = (own, tt)
 contained-run user d nz (next {ys = ys} {c = c} r a) own given =

@@ -1,4 +1,6 @@
 -- What the calls that deliver a text leave, from what they tell. Assumes nothing.
+use Rattle.model.specs.Checks.{Answer}
+use Rattle.std.specs.Prelude.{Ok}
 use Prim.Native.Nat.{ℕ}
 use mathlib.Core.List.{List, [], ◌∷◌}
 use mathlib.Core.Logic.{◌≢◌}
@@ -8,8 +10,6 @@ use Rattle.model.specs.Files.{membership_line}
 use Rattle.model.specs.Calls.{Call, read, membership, file_text, verdict}
 use Rattle.model.specs.Replies.{text_reply, reply, reply_by}
 use Rattle.model.specs.Demands as D
-use Rattle.model.specs.declared.Answer.{Answer}
-use Rattle.model.specs.declared.Answer.TheVariants.{Done}
 use Rattle.model.proofs.Demands.{demands}
 use Rattle.tree.specs.Layout.{view}
 use Rattle.tree.specs.Calling.{Answered}
@@ -24,9 +24,9 @@ undelivered {xs} {c = c} a ne t =
     let d : D.TurnedAway (view xs) c r.0 = demands.first.refused (view xs) c r.0 r.1 in
     record { size = t.size ∙ ap (λ k. k ∷ []) d.size; bytes = t.buffer ∙ d.buffer }
 
-text-done : (v : Answer) (text buffer : List ℕ) {told bytes : List ℕ} → v ≡ Done → Told (text_reply v text buffer) told bytes → FindsText text buffer told bytes
+text-done : (v : Answer) (text buffer : List ℕ) {told bytes : List ℕ} → v ≡ (Ok tt) → Told (text_reply v text buffer) told bytes → FindsText text buffer told bytes
 text-done v text buffer {told} {bytes} e t =
-    let u : Told (text_reply Done text buffer) told bytes = subst (λ (x : Answer). Told (text_reply x text buffer) told bytes) e t in
+    let u : Told (text_reply (Ok tt) text buffer) told bytes = subst (λ (x : Answer). Told (text_reply x text buffer) told bytes) e t in
     record { size = u.size; bytes = u.buffer }
 
 module _ {xs ys buffer told bytes : List ℕ} {n : ℕ} where

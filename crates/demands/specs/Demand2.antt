@@ -1,12 +1,11 @@
 -- Demand 2 of the code, from the contracts alone: exactly when; what charge and fork tell; when a device is a fifth; what a line
 -- of a limit leaves; the question about a control line; texts delivered, how long a buffer has to be for two of them, the line of a
 -- zombie, and what is written back; when a number is taken; containment. Assumes nothing.
-use Rattle.std.specs.Prelude.{ℕ, suc, ◌+◌, ◌≤◌, true, false, List, [], ◌∷◌, ◌++◌, ◌≢◌, ◌≡◌, length, take}
-use Rattle.std.proofs.Math.Option.{none, some}
+use Rattle.std.specs.Prelude.{ℕ, suc, ◌+◌, ◌≤◌, true, false, List, [], ◌∷◌, ◌++◌, ◌≢◌, ◌≡◌, length, take, Some, None}
 use Rattle.std.specs.Borrow.{Bor}
 use Rattle.model.specs.Functions.{All}
 use Rattle.model.specs.Sizes.{longest_listing, longest_membership, longest_shown}
-use Rattle.model.specs.Checks.{errno_number, answer_number, first, Pass, Says}
+use Rattle.model.specs.Checks.{errno_number, answer_number, first, Pass, Says, Answer}
 use Rattle.model.specs.Tree.{Tree, lives, parents, depths}
 use Rattle.model.specs.Hierarchy.{facts_of}
 use Rattle.model.specs.Zombies.{group_taken}
@@ -33,7 +32,6 @@ use Rattle.model.specs.declared.Limit.{Limit}
 use Rattle.model.specs.declared.Setting.{Setting}
 use Rattle.model.specs.declared.Setting.TheVariants.{IoMax, Max}
 use Rattle.model.specs.declared.File.TheVariants.{Procs}
-use Rattle.model.specs.declared.Answer.{Answer}
 use Rattle.tree.specs.Layout.{view}
 use Rattle.tree.specs.Kept.{Kept, Fresh}
 use Rattle.tree.specs.Calling.{Answered}
@@ -50,12 +48,12 @@ pub record Exactly (xs ys : List ℕ) (c : Call) (n : ℕ) : Type 0 where
 -- The words that a charge or a fork of process p tells, by the number k that it answers: no group, and depth plus one; the first
 -- group without room, which is live, and its place; no group, and 0.
 pub record RoomTold (t : Tree) (r : Resource) (n p k : ℕ) (told : List ℕ) : Type 0 where
-  pub success : k ≡ 0 → told ≡ group_word none ∷ suc (depths t (process_group t p)) ∷ []
+  pub success : k ≡ 0 → told ≡ group_word None ∷ suc (depths t (process_group t p)) ∷ []
   pub stopped : k ≡ errno_number (shortage r)
       → (h i : ℕ) × (told ≡ h ∷ i ∷ []) × StoppedAt t r n (process_group t p) h i × (lives t h ≡ true)
-  pub other : k ≢ 0 → k ≢ errno_number (shortage r) → told ≡ group_word none ∷ 0 ∷ []
+  pub other : k ≢ 0 → k ≢ errno_number (shortage r) → told ≡ group_word None ∷ 0 ∷ []
   -- the word for no group is no group's number
-  pub apart : (h : ℕ) → lives t h ≡ true → h ≢ group_word none
+  pub apart : (h : ℕ) → lives t h ≡ true → h ≢ group_word None
 
 -- r is the part p of the caller's own line s, in the same memory, and p is what the question asks for
 pub record BadPart (r s : Bor (List ℕ)) (p : Part) : Type 0 where
@@ -91,7 +89,7 @@ pub record Demand2 : Type 0 where
       → (n ≡ 28 → FifthWrite (view xs) user g file line) × (FifthWrite (view xs) user g file line → n ≡ 28)
   -- order 2: what an accepted line of memory.max or pids.max leaves, by its word
   pub rounds : {xs ys : List ℕ} {n : ℕ} (r : Resource) (user g : ℕ) (l : Limit) (line : List ℕ)
-      → one_word limit_word (line_words line) ≡ some l
+      → one_word limit_word (line_words line) ≡ Some l
       → Answered xs ys (write_setting user g (setting_name (Max r)) line) n → n ≡ 0 → LimitLeft (view ys) r g l
   -- told as two words, and as a part of the lent line
   pub question : {line told : List ℕ} → told ≡ part_words (first_bad_word line)
@@ -129,5 +127,5 @@ pub record Demand2 : Type 0 where
   -- every run in which nobody hands over to him a group outside it
   pub contained : {xs ys : List ℕ} {es : List Entry} (user d : ℕ) → user ≢ 0 → (r : Runs xs es ys)
       → OwnsInside (view xs) user d → Along (λ t c u. GivesOutside user d t c → ⊥) r
-      → OwnsInside (view ys) user d × Along (λ t c u. caller c ≡ some user → NoneAcross d t u) r
+      → OwnsInside (view ys) user d × Along (λ t c u. caller c ≡ Some user → NoneAcross d t u) r
   pub fresh : {m : ℕ} {xs : List ℕ} → Fresh m xs → (user d : ℕ) → user ≢ 0 → OwnsInside (view xs) user d

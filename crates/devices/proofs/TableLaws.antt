@@ -1,14 +1,15 @@
 -- Slots and the table that they stand for: a slot and those after it, the limits of a device, packed slots, whether there is room,
 -- and that one table has one list of slots. Assumes nothing.
+use Rattle.std.specs.Prelude.{Some, None}
 use Prim.Native.Nat.{ℕ, suc, ◌+◌, ◌-◌, ◌≤◌, ◌<◌}
 use native.Mathlib.Omega.{arith}
 use mathlib.Core.Bool.{true}
 use mathlib.Core.List.{List, [], ◌∷◌, ◌++◌}
 use mathlib.Core.Logic.{◌≢◌}
 use mathlib.Core.Path.{◌≡◌, refl, ap, sym, ◌∙◌}
-use lib.Dec.{eqb, leb}
+use lib.Dec.{eqb}
 use lib.ListN.{length}
-use borrow.Author.Tests.{eqb-true, eqb-false, eq-eqb, ne_eqb, le-leb, lt-leb}
+use borrow.Author.Tests.{eqb-true, eqb-false, eq-eqb, ne_eqb}
 use Rattle.model.specs.Functions.{pick, All}
 use Rattle.model.specs.Sizes.{most_devices}
 use Rattle.model.specs.Devices.{DeviceLimits, limits_at, Ascending}
@@ -16,7 +17,7 @@ use Rattle.model.specs.declared.Limit.TheVariants.{NoLimit}
 use Rattle.model.specs.declared.Key.{Key}
 use Rattle.model.specs.declared.Key.TheVariants.{Rbps, Wbps, Riops, Wiops}
 use Rattle.model.proofs.FunctionLaws.{split}
-use Rattle.devices.specs.Slots.{unlimited, free_slot, is_free, limits_of, line_of, table_of, Packed, rows, no_slots, slot_of}
+use Rattle.devices.specs.Slots.{unlimited, free_slot, is_free, limits_of, line_of, table_of, Packed, no_slots, slot_of, Holds}
 use Rattle.devices.specs.declared.slot.Slot.{Slot}
 use Rattle.devices.proofs.LimitWordLaws.{limit-word-is}
 use Rattle.devices.proofs.SlotLaws.{slot-here, slot-later, slot-of-free}
@@ -79,7 +80,7 @@ module _ (d : ℕ) where
   at-free x xs k h = rw (eq-eqb x.device 0 h)
 
   pub slot-limits : (xs : List Slot) → Packed xs → (k : Key) → limits_of (slot_of (d + 1) xs) k ≡ limits_at d (table_of xs) k
-  unfolding Packed All slot_of table_of limits_at
+  unfolding Packed All table_of limits_at
   slot-limits [] p k = no-limits (d + 1) k
   slot-limits (x ∷ xs) p k =
       split (eqb x.device 0)
@@ -98,7 +99,7 @@ module _ (d : ℕ) where
       ∙ sym (table ∙ at_tail x (table_of xs) k taken ne)))
 
 -- Four free slots are packed.
-pub packed_none : Packed (rows no_slots)
+pub packed_none : Packed no_slots
 unfolding Packed All
 packed_none =
     let one : All (λ x. x ≡ free_slot) (free_slot ∷ []) = (refl, tt) in
@@ -112,49 +113,37 @@ unfolding table_of
 table-front [] e h = rw h
 table-front (x ∷ xs) e h = ap (λ (l : List DeviceLimits). pick (is_free x) [] (line_of x ∷ l)) (table-front xs e h)
 
-all-front : {A : Type 0} (P : A → Type 0) (xs ys : List A) → All P (xs ++ ys) → All P xs
+all-front : {A : Type 0} (P : A → Type 0) (xs ys : List A) → All P (xs ++ ys) → All P xs × All P ys
 unfolding All
-all-front P [] ys h = tt
-all-front P (x ∷ xs) ys h = (h.0, all-front P xs ys h.1)
+all-front P [] ys h = (tt, h)
+all-front P (x ∷ xs) ys h = let r = all-front P xs ys h.1 in ((h.0, r.0), r.1)
 
 pub packed-front : (xs : List Slot) (e : Slot) → Packed (xs ++ (e ∷ [])) → Packed xs
 unfolding Packed All
 packed-front [] e p = tt
-packed-front (x ∷ xs) e p = ((λ y. ((p.0 y).0, all-front (λ s. s ≡ free_slot) xs (e ∷ []) (p.0 y).1)), packed-front xs e p.1)
+packed-front (x ∷ xs) e p = ((λ y. ((p.0 y).0, (all-front (λ s. s ≡ free_slot) xs (e ∷ []) (p.0 y).1).0)), packed-front xs e p.1)
 
--- The last slot tells whether there is room.
-abbrev last_of : Slot → List Slot → Slot
-last_of x [] = x
-last_of x (y ∷ ys) = last_of y ys
+-- Whether there is room: a slot more at the end is a device too many where it is taken.
+pub table-few : (xs : List Slot) → length (table_of xs) ≤ length xs
+unfolding table_of
+table-few [] = omega arith
+table-few (x ∷ xs) = split (is_free x) (λ y. rw y (omega arith)) (λ n. rw n (omega (arith, table-few xs)))
 
-room-where-free : (x : Slot) (xs : List Slot) → (last_of x xs).device ≡ 0 → length (table_of (x ∷ xs)) ≤ length xs
-room-where-free x [] h = rw (table-free x [] h) (omega arith)
-room-where-free x (y ∷ ys) h =
+full-where-taken : (xs : List Slot) (e : Slot) → Packed (xs ++ (e ∷ [])) → e.device ≢ 0 → length (table_of (xs ++ (e ∷ []))) ≡ suc (length xs)
+unfolding Packed All table_of
+full-where-taken [] e p h = ap length (table_taken e [] h)
+full-where-taken (x ∷ xs) e p h =
     taken-or-free x
-    (λ e. rw (table-free x (y ∷ ys) e) (omega arith))
-    (λ n. rw (table_taken x (y ∷ ys) n) (omega (arith, room-where-free y ys h)))
+    (λ z. absurd (h (ap (λ (s : Slot). s.device) (all-front (λ s. s ≡ free_slot) xs (e ∷ []) (p.0 (eq-eqb x.device 0 z)).1).1.0)))
+    (λ n. ap length (table_taken x (xs ++ (e ∷ [])) n) ∙ ap suc (full-where-taken xs e p.1 h))
 
-all-free-last : (x : Slot) (xs : List Slot) → All (λ y. y ≡ free_slot) (x ∷ xs) → (last_of x xs).device ≡ 0
-unfolding All
-all-free-last x [] h = ap (λ (s : Slot). s.device) h.0
-all-free-last x (y ∷ ys) h = all-free-last y ys h.1
-
-full-where-taken : (x : Slot) (xs : List Slot) → Packed (x ∷ xs) → (last_of x xs).device ≢ 0 → length (table_of (x ∷ xs)) ≡ suc (length xs)
-unfolding Packed table_of
-full-where-taken x [] p h = ap length (table_taken x [] h)
-full-where-taken x (y ∷ ys) p h =
-    taken-or-free x
-    (λ e. absurd (h (all-free-last x (y ∷ ys) (p.0 (eq-eqb x.device 0 e)))))
-    (λ n. ap length (table_taken x (y ∷ ys) n) ∙ ap suc (full-where-taken y ys p.1 h))
-
--- A fifth slot that is taken is a device too many.
-pub room-of-five : (a b c d e : Slot) → Packed (a ∷ b ∷ c ∷ d ∷ e ∷ [])
-    → leb (length (table_of (a ∷ b ∷ c ∷ d ∷ e ∷ []))) most_devices ≡ is_free e
-room-of-five a b c d e p =
-    taken-or-free e
-    (λ h. rw (eq-eqb e.device 0 h) (le-leb (length (table_of (a ∷ b ∷ c ∷ d ∷ e ∷ []))) most_devices (room-where-free a (b ∷ c ∷ d ∷ e ∷ []) h)))
-    (λ h. rw (ne_eqb e.device 0 h)
-    (lt-leb (length (table_of (a ∷ b ∷ c ∷ d ∷ e ∷ []))) most_devices (omega (arith, full-where-taken a (b ∷ c ∷ d ∷ e ∷ []) p h))))
+pub held-in : (t : List DeviceLimits) (xs : List Slot) (e : Slot) → table_of (xs ++ (e ∷ [])) ≡ t → Packed (xs ++ (e ∷ [])) → length xs ≡ most_devices
+    → Holds t (pick (is_free e) (Some xs) None)
+held-in t xs e h p l =
+    split (is_free e)
+    (λ y. let same : table_of xs ≡ t = sym (table-front xs e y) ∙ h in
+    rw y (record { few = omega (arith, table-few xs, ap length same, l); table = same; packed = packed-front xs e p }))
+    (λ n. rw n (omega (arith, full-where-taken xs e p (eqb-false e.device 0 n), ap length h, l)))
 
 -- Slots of one table are the same.
 same-slot : (x y : Slot) → x.device ≢ 0 → y.device ≢ 0 → line_of x ≡ line_of y → x ≡ y
@@ -162,11 +151,11 @@ same-slot x y h k e =
     let limit : (j : Key) → limits_of x j ≡ limits_of y j = (λ j. ap (λ (z : DeviceLimits). z.limit j) e) in
     let less : x.device - 1 ≡ y.device - 1 = ap (λ (z : DeviceLimits). z.device) e in
     let number : x.device ≡ y.device = omega arith in
-    let rbps : x.rbps ≡ y.rbps = limit-word-is x.rbps y.rbps (limit Rbps) in
-    let wbps : x.wbps ≡ y.wbps = limit-word-is x.wbps y.wbps (limit Wbps) in
-    let riops : x.riops ≡ y.riops = limit-word-is x.riops y.riops (limit Riops) in
-    let wiops : x.wiops ≡ y.wiops = limit-word-is x.wiops y.wiops (limit Wiops) in
-    λ i. record { device = number i; rbps = rbps i; wbps = wbps i; riops = riops i; wiops = wiops i }
+    let rbps : x.limits.rbps ≡ y.limits.rbps = limit-word-is x.limits.rbps y.limits.rbps (limit Rbps) in
+    let wbps : x.limits.wbps ≡ y.limits.wbps = limit-word-is x.limits.wbps y.limits.wbps (limit Wbps) in
+    let riops : x.limits.riops ≡ y.limits.riops = limit-word-is x.limits.riops y.limits.riops (limit Riops) in
+    let wiops : x.limits.wiops ≡ y.limits.wiops = limit-word-is x.limits.wiops y.limits.wiops (limit Wiops) in
+    λ i. record { device = number i; limits = record { rbps = rbps i; wbps = wbps i; riops = riops i; wiops = wiops i } }
 
 all-free-same : (xs ys : List Slot) → length xs ≡ length ys → All (λ x. x ≡ free_slot) xs → All (λ x. x ≡ free_slot) ys → xs ≡ ys
 unfolding All

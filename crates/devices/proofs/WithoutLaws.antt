@@ -1,18 +1,28 @@
 -- Slots without a device are `with_device` of the table where the device is all "max", and are packed. Assumes nothing.
-use Prim.Native.Nat.{ℕ, suc, ◌-◌, ◌≤◌, ◌<◌}
+use Prim.Native.Nat.{ℕ, zero, suc, ◌+◌, ◌-◌, ◌≤◌, ◌<◌}
 use native.Mathlib.Omega.{arith}
-use mathlib.Core.Bool.{true}
+use mathlib.Core.Bool.{true, false}
 use mathlib.Core.List.{List, [], ◌∷◌, ◌++◌}
 use mathlib.Core.Logic.{◌≢◌}
 use mathlib.Core.Path.{◌≡◌, refl, ap, sym, ◌∙◌}
 use lib.Dec.{eqb}
+use lib.ListN.{length, get_or, set, take, drop, length-set}
+use lib.Seq.{get_or-set_same}
+use borrow.Rule.Slice.PartMut.{put_mid, mid_of}
+use Rattle.std.specs.Prelude.{Some, None}
+use Rattle.std.specs.List.{remove, position, position_from}
+use Rattle.std.proofs.lemmas.Option.{none-some}
+use Rattle.std.proofs.lemmas.List.{take-set, drop-set-lt}
+use Rattle.std.proofs.lemmas.List.Quantifiers.{position-Some}
+use Rattle.std.proofs.lemmas.Iterator.Adapters.{position_from-zero}
+use Rattle.std.proofs.lemmas.Slice.{put_mid-rotated}
 use borrow.Author.Tests.{eq-eqb, ne_eqb}
 use Rattle.model.specs.Functions.{All}
 use Rattle.model.specs.Devices.{DeviceLimits, all_max, with_device, Ascending}
 use Rattle.model.specs.declared.Limit.{Limit}
 use Rattle.model.specs.declared.Key.{Key}
 use Rattle.model.proofs.FunctionLaws.{split}
-use Rattle.devices.specs.Slots.{free_slot, line_of, table_of, Packed, without}
+use Rattle.devices.specs.Slots.{free_slot, line_of, table_of, Packed, without, is_of}
 use Rattle.devices.specs.declared.slot.Slot.{Slot}
 use Rattle.devices.proofs.TableLaws.{taken-or-free, table-free, table_taken, ascending-first, ascending-rest, table-front}
 use Rattle.devices.proofs.WithLaws.{compare, entered-max, with_none, with-below, with-same, with-above}
@@ -57,13 +67,13 @@ module _ (w : ℕ) (some : w ≢ 0) where
       ∙ sym (table_taken x xs t)))
 
   module _ (l : Key → Limit) (max : all_max l ≡ true) where
-    without-none : table_of (without w []) ≡ with_device (w - 1) l (table_of [])
+    none-left : table_of (without w []) ≡ with_device (w - 1) l (table_of [])
     unfolding without table_of
-    without-none = sym (with_none (w - 1) l ∙ entered-max (w - 1) l [] max)
+    none-left = sym (with_none (w - 1) l ∙ entered-max (w - 1) l [] max)
 
     pub without-with-device : (n : ℕ) (xs : List Slot) → Ascending n (table_of xs) → table_of (without w xs) ≡ with_device (w - 1) l (table_of xs)
     unfolding without
-    without-with-device n [] a = without-none
+    without-with-device n [] a = none-left
     without-with-device n (x ∷ xs) a =
         taken-or-free x
         (λ e. rw (ne_eqb x.device w (λ z. some (sym z ∙ e)))
@@ -82,26 +92,35 @@ module _ (w : ℕ) (some : w ≢ 0) where
         ∙ ap (λ (m : List DeviceLimits). line_of x ∷ m) (without-below (suc (x.device - 1)) xs (omega arith) (ascending-rest n x xs t a))
         ∙ sym (old ∙ with-below (w - 1) l (line_of x) (table_of xs) (omega arith) ∙ entered-max (w - 1) l (line_of x ∷ table_of xs) max))))
 
--- four places without a device
-module _ (a b c d f : Slot) (w : ℕ) where
-  pub without-first : f ≡ free_slot → a.device ≡ w → b ∷ c ∷ d ∷ f ∷ [] ≡ without w (a ∷ b ∷ c ∷ d ∷ [])
+-- by where its slot stands
+module _ (w : ℕ) where
+  nowhere : (n : ℕ) (xs : List Slot) → position_from (is_of w) n xs ≡ None → xs ≡ without w xs
   unfolding without
-  without-first e h = rw (e, eq-eqb a.device w h)
+  nowhere n [] e = refl
+  nowhere n (x ∷ xs) e =
+      split (eqb x.device w)
+      (λ y. absurd (none-some n (sym (rw y at e))))
+      (λ o. rw o (ap (λ (l : List Slot). x ∷ l) (nowhere (n + 1) xs (rw o at e))))
 
-  pub without-second : f ≡ free_slot → a.device ≢ w → b.device ≡ w → a ∷ c ∷ d ∷ f ∷ [] ≡ without w (a ∷ b ∷ c ∷ d ∷ [])
-  unfolding without
-  without-second e x h = rw (e, ne_eqb a.device w x, eq-eqb b.device w h)
+  pub without-none : (xs : List Slot) → position (is_of w) xs ≡ None → xs ≡ without w xs
+  without-none xs e = nowhere 0 xs (sym (position_from-zero (is_of w) xs) ∙ e)
 
-  pub without-third : f ≡ free_slot → a.device ≢ w → b.device ≢ w → c.device ≡ w → a ∷ b ∷ d ∷ f ∷ [] ≡ without w (a ∷ b ∷ c ∷ d ∷ [])
+  somewhere : (xs : List Slot) (i : ℕ) → i < length xs → is_of w (get_or xs i free_slot) ≡ true → ((k : ℕ) → k < i → is_of w (get_or xs k free_slot) ≡ false)
+      → remove xs i ++ (free_slot ∷ []) ≡ without w xs
   unfolding without
-  without-third e x y h = rw (e, ne_eqb a.device w x, ne_eqb b.device w y, eq-eqb c.device w h)
+  somewhere [] i l y n = absurd (omega arith)
+  somewhere (x ∷ xs) zero l y n = rw y
+  somewhere (x ∷ xs) (suc i) l y n =
+      rw (n 0 (omega arith)) (ap (λ (l : List Slot). x ∷ l) (somewhere xs i (omega arith) y (λ k h. n (suc k) (omega arith))))
 
-  pub without-fourth : f ≡ free_slot → a.device ≢ w → b.device ≢ w → c.device ≢ w → d.device ≡ w
-      → a ∷ b ∷ c ∷ f ∷ [] ≡ without w (a ∷ b ∷ c ∷ d ∷ [])
-  unfolding without
-  without-fourth e x y z h = rw (e, ne_eqb a.device w x, ne_eqb b.device w y, ne_eqb c.device w z, eq-eqb d.device w h)
-
-module _ (a b c d : Slot) (w : ℕ) where
-  pub without-any : a.device ≢ w → b.device ≢ w → c.device ≢ w → d.device ≢ w → a ∷ b ∷ c ∷ d ∷ [] ≡ without w (a ∷ b ∷ c ∷ d ∷ [])
-  unfolding without
-  without-any x y z h = rw (ne_eqb a.device w x, ne_eqb b.device w y, ne_eqb c.device w z, ne_eqb d.device w h)
+  -- its slot made free, and taken to the end
+  pub without-at : (xs ys : List Slot) (i k : ℕ) (f : Slot) → position (is_of w) xs ≡ Some i → length xs ≤ i + k → f ≡ free_slot
+      → ys ≡ drop 1 (mid_of i k (set xs i f)) ++ take 1 (mid_of i k (set xs i f)) → put_mid i k (set xs i f) ys ≡ without w xs
+  without-at xs ys i k f e l z r =
+      let h = position-Some (is_of w) xs i free_slot e in
+      let few : length (set xs i f) ≤ i + k = rw length-set l in
+      let low : i < length (set xs i f) = rw length-set h.0 in
+      let last : get_or (set xs i f) i free_slot ≡ free_slot = get_or-set_same xs i f free_slot h.0 ∙ z in
+      let front : take i (set xs i f) ≡ take i xs = take-set xs i f in
+      let back : drop (suc i) (set xs i f) ≡ drop (suc i) xs = drop-set-lt (suc i) xs i f (omega arith) in
+      put_mid-rotated i k (set xs i f) ys free_slot low few r ∙ rw (last, front, back) (somewhere xs i h.0 h.1 h.2)

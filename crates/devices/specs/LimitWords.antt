@@ -1,13 +1,10 @@
 -- A limit as a word of a tree: what the word says, and which limits, and which pairs of a line, have one of 64 bits. Assumes nothing.
-use Rattle.std.specs.Prelude.{ℕ, ◌+◌, ◌^◌, ◌-◌, ◌<◌, eqb}
+use Rattle.std.specs.Prelude.{ℕ, ◌+◌, ◌^◌, ◌-◌, ◌<◌, eqb, Option, Some, None}
 use Rattle.model.specs.Functions.{pick}
 use Rattle.model.specs.declared.Limit.{Limit}
 use Rattle.model.specs.declared.Limit.TheVariants.{NoLimit, Figure}
-use Rattle.model.specs.Devices.{pair_of}
+use Rattle.model.specs.Devices.{pair_of, Pairs}
 use Rattle.model.specs.declared.Key.{Key}
-use Rattle.model.specs.declared.Pair.{Pair}
-use Rattle.model.specs.declared.Pair.TheVariants.{Absent, Given}
-use Rattle.model.specs.declared.Pairs.{Pairs}
 
 -- one more than its figure, so that 0 is none
 abbrev pub limit_in : ℕ → Limit
@@ -18,9 +15,9 @@ abbrev pub Storable : Limit → Type 0
 Storable NoLimit = Unit {0}
 Storable (Figure n) = n + 1 < 2 ^ 64
 
-abbrev pub StorablePair : Pair → Type 0
-StorablePair Absent = Unit {0}
-StorablePair (Given l) = Storable l
+abbrev pub StorablePair : (Option Limit) → Type 0
+StorablePair None = Unit {0}
+StorablePair (Some l) = Storable l
 
 abbrev pub StorablePairs : Pairs → Type 0
 StorablePairs p = (k : Key) → StorablePair (pair_of p k)

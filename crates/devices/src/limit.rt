@@ -7,18 +7,18 @@ use model::Limit;
 pub fn limit_in(word: u64) -> Limit
     ensures { result ≡ limit_in word }
 {
-    if word == 0 {
-        return Limit::NoLimit;
+    match word {
+        0 => Limit::NoLimit,
+        _ => Limit::Figure(word - 1),
     }
-    Limit::Figure(word - 1)
 }
 
 pub fn limit_word(l: Limit) -> u64
     requires { Storable l }
     ensures { limit_in result ≡ l }
 {
-    let Limit::Figure(n) = l else {
-        return 0;
-    };
-    n + 1
+    match l {
+        Limit::NoLimit => 0,
+        Limit::Figure(n) => n + 1,
+    }
 }

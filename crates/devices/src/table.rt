@@ -1,220 +1,101 @@
 // Four slots, packed and ascending. One pass over them, which carries a slot along, puts a device where it belongs; what it carries
-// out is a fifth device. There is no loop and no index.
+// out is a fifth device.
 ghost use Rattle.std.specs.Prelude.{◌*◌, ◌<◌, ◌≢◌, ◌≡◌};
 ghost use Rattle.model.specs.Sizes.{device_numbers};
+ghost use Rattle.std.specs.List.{find, position};
 ghost use Rattle.devices.specs.LimitWords.{StorablePairs};
-ghost use Rattle.devices.specs.Slots.{no_slots, stepped, slots_of, passed, without, rows, slot_of, InOrder, Written, LineWritten};
+ghost use Rattle.devices.specs.Slots.{no_slots, stepped, put_in, without, is_of, slot_of, InOrder, Written, LineWritten};
 
-use super::slot::{Slot, changed, free, is_all_max};
+use super::slot::{Slot, changed, free, is_all_max, unlimited};
 use model::Pairs;
+use std::mem;
 
-#[derive(Clone, Copy)]
-pub struct Slots {
-    pub a: Slot,
-    pub b: Slot,
-    pub c: Slot,
-    pub d: Slot,
-}
+// "A group holds four devices."
+pub const MOST_DEVICES: usize = 4;
+
+pub type Slots = [Slot; MOST_DEVICES];
 
 // No device.
 pub fn empty() -> Slots
     ensures { result ≡ no_slots }
 {
-    Slots {
-        a: free(),
-        b: free(),
-        c: free(),
-        d: free(),
-    }
+    [free(); MOST_DEVICES]
 }
 
-// What stays in a place, and what is carried on.
-#[derive(Clone, Copy)]
-struct Placed {
-    kept: Slot,
-    carried: Slot,
-}
-
-// What a pass leaves in the four places, and what it carries out of them: a fifth device, or a free slot.
-#[derive(Clone, Copy)]
-pub struct Passed {
-    pub slots: Slots,
-    pub out: Slot,
-}
-
-// One place: the lower device stays, and the other goes on; the device that comes takes the place of itself.
-fn place(x: Slot, carry: Slot) -> Placed
-    ensures { result ≡ stepped x carry }
+// One place of the pass, and what it carries on: the lower device stays; the device that comes takes the place of itself.
+fn place(here: &mut Slot, coming: Slot) -> Slot
+    ensures { (here.new, result) ≡ stepped here.old coming }
 {
-    let coming = carry.device;
-    let here = x.device;
-    if coming == 0 {
-        return Placed {
-            kept: x,
-            carried: carry,
-        };
+    if coming.device == 0 || here.device != 0 && here.device < coming.device {
+        return coming;
     }
-    if here == 0 {
-        return Placed {
-            kept: carry,
-            carried: x,
-        };
-    }
-    if coming < here {
-        return Placed {
-            kept: carry,
-            carried: x,
-        };
-    }
-    if coming == here {
-        return Placed {
-            kept: carry,
-            carried: free(),
-        };
-    }
-    Placed {
-        kept: x,
-        carried: carry,
+    let was = mem::replace(here, coming);
+    if was.device == coming.device {
+        free()
+    } else {
+        was
     }
 }
 
-// A device put into the table.
-fn with_slot(s: Slots, x: Slot) -> Passed
-    ensures { slots_of result ≡ passed x (rows s) }
+// A device put into the table, unless it were a fifth.
+fn with_slot(mut s: Slots, x: Slot) -> Option<Slots>
+    ensures { result ≡ put_in x s }
 {
-    let a = s.a;
-    let b = s.b;
-    let c = s.c;
-    let d = s.d;
-    let first = place(a, x);
-    let p = first.carried;
-    let second = place(b, p);
-    let q = second.carried;
-    let third = place(c, q);
-    let u = third.carried;
-    let fourth = place(d, u);
-    let ka = first.kept;
-    let kb = second.kept;
-    let kc = third.kept;
-    let kd = fourth.kept;
-    let out = fourth.carried;
-    Passed {
-        slots: Slots {
-            a: ka,
-            b: kb,
-            c: kc,
-            d: kd,
-        },
-        out: out,
+    let mut carried = x;
+    for here in &mut s {
+        carried = place(here, carried);
     }
+    if carried.device == 0 { Some(s) } else { None }
+}
+
+// Where the slot of a device stands.
+fn place_of(s: &Slots, device: u64) -> Option<usize>
+    ensures { result ≡ position (is_of device) s.now }
+{
+    s.iter().position(|x| x.device == device)
 }
 
 // The table without a device.
-fn without_device(s: Slots, device: u64) -> Slots
-    ensures { rows result ≡ without device (rows s) }
+fn without_device(mut s: Slots, device: u64) -> Slots
+    ensures { result ≡ without device s }
 {
-    let a = s.a;
-    let b = s.b;
-    let c = s.c;
-    let d = s.d;
-    let da = a.device;
-    let db = b.device;
-    let dc = c.device;
-    let dd = d.device;
-    if da == device {
-        return Slots {
-            a: b,
-            b: c,
-            c: d,
-            d: free(),
-        };
+    if let Some(i) = place_of(&s, device) {
+        s[i] = free();
+        s[i..].rotate_left(1);
     }
-    if db == device {
-        return Slots {
-            a: a,
-            b: c,
-            c: d,
-            d: free(),
-        };
-    }
-    if dc == device {
-        return Slots {
-            a: a,
-            b: b,
-            c: d,
-            d: free(),
-        };
-    }
-    if dd == device {
-        return Slots {
-            a: a,
-            b: b,
-            c: c,
-            d: free(),
-        };
-    }
-    Slots {
-        a: a,
-        b: b,
-        c: c,
-        d: d,
-    }
+    s
 }
 
-// A device's slot written: it is put in its place, or goes where it is all "max". A slot carried out is a fifth device.
-fn write(s: Slots, x: Slot) -> Passed
-    requires { InOrder (rows s) × (x.device ≢ 0) }
+// A device's slot written: it is put in its place, or goes where it is all "max". None where it were a fifth device.
+fn write(s: Slots, x: Slot) -> Option<Slots>
+    requires { InOrder s × (x.device ≢ 0) }
     ensures { Written s x result }
 {
     if is_all_max(x) {
-        let device = x.device;
-        let left = without_device(s, device);
-        return Passed {
-            slots: left,
-            out: free(),
-        };
+        return Some(without_device(s, x.device));
     }
     with_slot(s, x)
 }
 
-// The slot of a device, with no limits where the table does not have it.
-fn slot_of(s: Slots, device: u64) -> Slot
-    ensures { result ≡ slot_of device (rows s) }
+// The slot of a device, where the table has it.
+fn found(s: &Slots, device: u64) -> Option<Slot>
+    ensures { result ≡ find (is_of device) s.now }
 {
-    let a = s.a;
-    let b = s.b;
-    let c = s.c;
-    let d = s.d;
-    let da = a.device;
-    let db = b.device;
-    let dc = c.device;
-    let dd = d.device;
-    if da == device {
-        return a;
-    }
-    if db == device {
-        return b;
-    }
-    if dc == device {
-        return c;
-    }
-    if dd == device {
-        return d;
-    }
-    Slot {
-        device: device,
-        rbps: 0,
-        wbps: 0,
-        riops: 0,
-        wiops: 0,
-    }
+    s.iter().copied().find(|x| x.device == device)
 }
 
-// The table after a line for a device.
-pub fn after_line(s: Slots, device: u64, pairs: Pairs) -> Passed
-    requires { InOrder (rows s) × ((device < device_numbers * device_numbers) × StorablePairs pairs) }
+// The slot of a device, with no limits where the table does not have it.
+fn slot_of(s: &Slots, device: u64) -> Slot
+    ensures { result ≡ slot_of device s.now }
+{
+    found(s, device).unwrap_or(unlimited(device))
+}
+
+// The table after a line for a device, or none where it has a fifth.
+pub fn after_line(s: Slots, device: u64, pairs: Pairs) -> Option<Slots>
+    requires { InOrder s × ((device < device_numbers * device_numbers) × StorablePairs pairs) }
     ensures { LineWritten s device pairs result }
 {
-    let old = slot_of(s, device + 1);
+    let old = slot_of(&s, device + 1);
     write(s, changed(old, pairs))
 }

@@ -1,17 +1,12 @@
 // Evenings about the hierarchy: control sets, moves, depths, and the last numbers.
-ghost use Rattle.std.specs.Prelude.{IfOk};
-ghost use Rattle.tree.specs.Kept.{Kept};
-
-use super::line_calls::{write_procs, write_subtree_control};
-use super::reply_calls::{membership_into, read};
-use super::tree_calls::{admit, charge, fresh_tree, hand_over, make};
+use super::evening::Evening;
 use std::io;
-use tree::layout::Tree;
+use tree::layout::DEEPEST;
 
-pub(crate) fn p9(rt: &impl Print) -> io::Result<()> {
-    let mut tree = fresh_tree(rt, 1024)?;
-    write_subtree_control(rt, &mut tree, 0, 0, b"+cpu -cpu +memory")?;
-    read(rt, &tree, 0, b"cgroup.subtree_control")
+pub(crate) fn p9(evening: &mut Evening) -> io::Result<()> {
+    evening.begin("P9: the last word on a controller counts", 1024)?;
+    evening.write_subtree_control(0, 0, "+cpu -cpu +memory")?;
+    evening.read(0, "cgroup.subtree_control")
 }
 
 //     0
@@ -21,84 +16,51 @@ pub(crate) fn p9(rt: &impl Print) -> io::Result<()> {
 //       │ └ 6 C01 (user 1000)
 //       └ 3 C1 (user 1000)
 //         └ 5 C10 (user 1000), process 9 of user 1000
-fn delegated(rt: &impl Print) -> io::Result<Tree>
-    ensures { IfOk result (λ t. Kept t) }
-{
-    let mut tree = fresh_tree(rt, 1024)?;
-    make(rt, &mut tree, 0, 0, 1)?;
-    make(rt, &mut tree, 0, 1, 2)?;
-    make(rt, &mut tree, 0, 1, 3)?;
-    hand_over(rt, &mut tree, 0, 2, 1000)?;
-    hand_over(rt, &mut tree, 0, 3, 1000)?;
-    make(rt, &mut tree, 1000, 2, 4)?;
-    make(rt, &mut tree, 1000, 3, 5)?;
-    make(rt, &mut tree, 1000, 2, 6)?;
-    admit(rt, &mut tree, 9, 1000)?;
-    write_procs(rt, &mut tree, 0, 5, 9)?;
-    Ok(tree)
+fn delegated(evening: &mut Evening) -> io::Result<()> {
+    for (parent, group) in [(0, 1), (1, 2), (1, 3)] {
+        evening.make(0, parent, group)?;
+    }
+    evening.hand_over(0, 2, 1000)?;
+    evening.hand_over(0, 3, 1000)?;
+    for (parent, group) in [(2, 4), (3, 5), (2, 6)] {
+        evening.make(1000, parent, group)?;
+    }
+    evening.admit(9, 1000)?;
+    evening.write_procs(0, 5, 9)
 }
 
 // The same move passes once user 1000 owns group 1 too.
-pub(crate) fn p10(rt: &impl Print) -> io::Result<()> {
-    let mut tree = delegated(rt)?;
-    write_procs(rt, &mut tree, 1000, 4, 9)?;
-    write_procs(rt, &mut tree, 1000, 3, 9)?;
-    write_procs(rt, &mut tree, 1000, 5, 9)?;
-    hand_over(rt, &mut tree, 0, 1, 1000)?;
-    write_procs(rt, &mut tree, 1000, 4, 9)
+pub(crate) fn p10(evening: &mut Evening) -> io::Result<()> {
+    let title = "P10: a move from C10, group 5, to C00, group 4, asks for their common ancestor";
+    evening.begin(title, 1024)?;
+    delegated(evening)?;
+    for group in [4, 3, 5] {
+        evening.write_procs(1000, group, 9)?;
+    }
+    evening.hand_over(0, 1, 1000)?;
+    evening.write_procs(1000, 4, 9)
 }
 
-// Eight levels, and eight more below them.
-fn upper_levels(rt: &impl Print, tree: &mut Tree) -> io::Result<()>
-    requires { Kept tree.old }
-    ensures { Kept tree.new }
-{
-    make(rt, tree, 0, 0, 1)?;
-    make(rt, tree, 0, 1, 2)?;
-    make(rt, tree, 0, 2, 3)?;
-    make(rt, tree, 0, 3, 4)?;
-    make(rt, tree, 0, 4, 5)?;
-    make(rt, tree, 0, 5, 6)?;
-    make(rt, tree, 0, 6, 7)?;
-    make(rt, tree, 0, 7, 8)
-}
-
-fn lower_levels(rt: &impl Print, tree: &mut Tree) -> io::Result<()>
-    requires { Kept tree.old }
-    ensures { Kept tree.new }
-{
-    make(rt, tree, 0, 8, 9)?;
-    make(rt, tree, 0, 9, 10)?;
-    make(rt, tree, 0, 10, 11)?;
-    make(rt, tree, 0, 11, 12)?;
-    make(rt, tree, 0, 12, 13)?;
-    make(rt, tree, 0, 13, 14)?;
-    make(rt, tree, 0, 14, 15)?;
-    make(rt, tree, 0, 15, 16)
-}
-
-pub(crate) fn depths(rt: &impl Print) -> io::Result<()> {
-    let mut tree = fresh_tree(rt, 1024)?;
-    upper_levels(rt, &mut tree)?;
-    lower_levels(rt, &mut tree)?;
-    make(rt, &mut tree, 0, 16, 17)?;
-    admit(rt, &mut tree, 5, 0)?;
-    write_procs(rt, &mut tree, 0, 16, 5)?;
-    charge(rt, &mut tree, 5, 1)?;
-    membership_into(rt, &tree, 5, &mut [b'.'; 43])
+// A chain down to the deepest group, and one group more.
+pub(crate) fn depths(evening: &mut Evening) -> io::Result<()> {
+    evening.begin("Make under depth 15 passes, under depth 16 is 11", 1024)?;
+    evening.make_chain(DEEPEST + 1)?;
+    evening.admit_to(DEEPEST, 5)?;
+    evening.charge(5, 1)?;
+    evening.membership_into(5, &mut [b'.'; 43])
 }
 
 // Order 4: the last numbers, and the first that are out of range.
-pub(crate) fn last_numbers(rt: &impl Print) -> io::Result<()> {
-    let mut tree = fresh_tree(rt, 1024)?;
-    make(rt, &mut tree, 0, 0, 255)?;
-    make(rt, &mut tree, 0, 0, 256)?;
-    admit(rt, &mut tree, 1024, 0)?;
-    admit(rt, &mut tree, 1025, 0)?;
-    write_procs(rt, &mut tree, 0, 256, 1024)?;
-    write_procs(rt, &mut tree, 0, 255, 1025)?;
-    write_procs(rt, &mut tree, 0, 255, 1024)?;
-    membership_into(rt, &tree, 1024, &mut [b'.'; 8])?;
-    read(rt, &tree, 255, b"cgroup.procs")?;
-    read(rt, &tree, 256, b"cgroup.procs")
+pub(crate) fn last_numbers(evening: &mut Evening) -> io::Result<()> {
+    evening.begin("Order 4: groups 0 to 255, processes 1 to 1024", 1024)?;
+    evening.make(0, 0, 255)?;
+    evening.make(0, 0, 256)?;
+    evening.admit(1024, 0)?;
+    evening.admit(1025, 0)?;
+    for (group, process) in [(256, 1024), (255, 1025), (255, 1024)] {
+        evening.write_procs(0, group, process)?;
+    }
+    evening.membership_into(1024, &mut [b'.'; 8])?;
+    evening.read(255, "cgroup.procs")?;
+    evening.read(256, "cgroup.procs")
 }

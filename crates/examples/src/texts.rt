@@ -1,73 +1,52 @@
 // Evenings about texts: replies in buffers of a given length, and the first bad word of a line.
-ghost use Rattle.tree.specs.Kept.{Kept};
-
-use super::line_calls::{first_bad_word, write_procs, write_subtree_control};
-use super::reply_calls::{membership_into, read_into};
-use super::tree_calls::{admit, fresh_tree, make};
+use super::evening::Evening;
 use std::io;
-use tree::layout::Tree;
-
-fn membership(rt: &impl Print, tree: &Tree) -> io::Result<()>
-    requires { Kept tree.now }
-{
-    membership_into(rt, tree, 5, &mut [b'.'; 10])
-}
 
 // Process 5 in the root, and then in group 7 under group 3.
-pub(crate) fn p11(rt: &impl Print) -> io::Result<()> {
-    let mut tree = fresh_tree(rt, 1024)?;
-    make(rt, &mut tree, 0, 0, 3)?;
-    make(rt, &mut tree, 0, 3, 7)?;
-    admit(rt, &mut tree, 5, 0)?;
-    membership(rt, &tree)?;
-    write_procs(rt, &mut tree, 0, 7, 5)?;
-    membership(rt, &tree)
+pub(crate) fn p11(evening: &mut Evening) -> io::Result<()> {
+    evening.begin("P11: the membership line of a process", 1024)?;
+    evening.make(0, 0, 3)?;
+    evening.make(0, 3, 7)?;
+    evening.admit(5, 0)?;
+    evening.membership_into(5, &mut [b'.'; 10])?;
+    evening.write_procs(0, 7, 5)?;
+    evening.membership_into(5, &mut [b'.'; 10])
 }
 
-fn processes_of_the_root(rt: &impl Print, tree: &Tree, reply: &mut [u8]) -> io::Result<()>
-    requires { Kept tree.now }
-{
-    read_into(rt, tree, 0, b"cgroup.procs", reply)
-}
-
-fn set_of_the_root(rt: &impl Print, tree: &Tree) -> io::Result<()>
-    requires { Kept tree.now }
-{
-    read_into(rt, tree, 0, b"cgroup.subtree_control", &mut [b'.'; 12])
-}
-
-pub(crate) fn whole_replies(rt: &impl Print) -> io::Result<()> {
-    let mut tree = fresh_tree(rt, 1024)?;
-    admit(rt, &mut tree, 200, 0)?;
-    admit(rt, &mut tree, 3, 0)?;
-    admit(rt, &mut tree, 12, 0)?;
-    processes_of_the_root(rt, &tree, &mut [b'.'; 8])?;
-    processes_of_the_root(rt, &tree, &mut [b'.'; 10])?;
-    write_subtree_control(rt, &mut tree, 0, 0, b"+memory +cpu")?;
-    set_of_the_root(rt, &tree)
+pub(crate) fn whole_replies(evening: &mut Evening) -> io::Result<()> {
+    let title = "Whole reply: the text at the front of the buffer, or nothing";
+    evening.begin(title, 1024)?;
+    for process in [200, 3, 12] {
+        evening.admit(process, 0)?;
+    }
+    evening.read_into(0, "cgroup.procs", &mut [b'.'; 8])?;
+    evening.read_into(0, "cgroup.procs", &mut [b'.'; 10])?;
+    evening.write_subtree_control(0, 0, "+memory +cpu")?;
+    evening.read_into(0, "cgroup.subtree_control", &mut [b'.'; 12])
 }
 
 // A line longer than any that can be written: 300 spaces before the word.
-fn long_line(rt: &impl Print) -> io::Result<()> {
+fn long_line(evening: &Evening) -> io::Result<()> {
     let mut line = [b' '; 303];
-    line[300] = b'c';
-    line[301] = b'p';
-    line[302] = b'u';
-    first_bad_word(rt, &line)
+    line[300..].copy_from_slice(b"cpu");
+    evening.first_bad_word(&line)
 }
 
-fn no_words(rt: &impl Print) -> io::Result<()> {
-    first_bad_word(rt, b"+cpu \n")?;
-    first_bad_word(rt, b"")?;
-    first_bad_word(rt, b"\n")?;
-    first_bad_word(rt, b"\n\n")
-}
-
-pub(crate) fn first_bad_words(rt: &impl Print) -> io::Result<()> {
-    first_bad_word(rt, b"+cpu +disk -pids\n")?;
-    no_words(rt)?;
-    first_bad_word(rt, b"  +")?;
-    first_bad_word(rt, b"+cpu\t+pids")?;
-    first_bad_word(rt, b"-memory \xff ++cpu")?;
-    long_line(rt)
+pub(crate) fn first_bad_words(evening: &Evening) -> io::Result<()> {
+    let title = "The first word that a control line may not contain, or the empty part at its end";
+    evening.title(title)?;
+    let lines: [&[u8]; 8] = [
+        b"+cpu +disk -pids\n",
+        b"+cpu \n",
+        b"",
+        b"\n",
+        b"\n\n",
+        b"  +",
+        b"+cpu\t+pids",
+        b"-memory \xff ++cpu",
+    ];
+    for line in lines {
+        evening.first_bad_word(line)?;
+    }
+    long_line(evening)
 }

@@ -1,97 +1,64 @@
--- Laws of the text of io.max: the line of a slot, and that the lines of packed slots are the file. Assumes nothing.
-use Prim.Native.Nat.{ℕ, ◌+◌, ◌-◌, ◌≤◌}
+-- Laws of the text of io.max: the lines of the slots in use, one after another, are the file. Assumes nothing.
+use Prim.Native.Nat.{ℕ, ◌+◌, ◌≤◌, ◌<◌}
+use native.Mathlib.Numerals.{add-one}
 use native.Mathlib.Omega.{arith}
-use mathlib.Core.List.{List, [], ◌∷◌, ◌++◌, map}
+use mathlib.Core.List.{List, [], ◌∷◌, ◌++◌, append_assoc, append-nil, map}
 use mathlib.Core.Logic.{◌≢◌}
-use mathlib.Core.Path.{◌≡◌, refl, ap, ◌∙◌}
-use lib.ListN.{length, length-append}
+use mathlib.Core.Path.{◌≡◌, ap, sym, ◌∙◌}
+use lib.ListN.{length, length-append, drop, drop_of_length-le, get_or}
+use lib.Seq.{drop-cons}
 use borrow.Author.Tests.{eq-eqb, ne_eqb}
-use Rattle.model.specs.Functions.{All}
-use Rattle.model.specs.Hierarchy.{facts_of}
-use Rattle.model.specs.Text.{ended, joined, spaced}
-use Rattle.model.specs.Devices.{major_of, minor_of, DeviceLimits}
-use Rattle.model.specs.DeviceLines.{device_text, pair_texts}
-use Rattle.model.specs.Settings.{limit_text, shown_device, shown, value_text}
+use Rattle.model.specs.Text.{ended, joined}
+use Rattle.model.specs.Devices.{DeviceLimits}
+use Rattle.model.specs.Settings.{shown_device, shown, value_text}
 use Rattle.model.specs.Files.{contents}
 use Rattle.model.specs.declared.Setting.TheVariants.{IoMax}
 use Rattle.model.specs.declared.File.TheVariants.{Value}
-use Rattle.model.proofs.FunctionLaws.{split}
-use Rattle.model.proofs.WriteBack.{length-of-text}
-use Rattle.devices.specs.LimitWords.{limit_in}
-use Rattle.devices.specs.Slots.{free_slot, is_free, line_of, table_of, Packed, rows}
+use Rattle.devices.specs.Slots.{table_of}
 use Rattle.devices.specs.declared.slot.Slot.{Slot}
-use Rattle.devices.specs.declared.table.Slots.{Slots}
-use Rattle.tree.specs.Layout.{view}
 use Rattle.tree.specs.Changes.{Slotted}
-use Rattle.tree.specs.Kept.{KeptAt}
-use Rattle.files.specs.Texts.{longest_devices, limits_text, slot_text}
-use Rattle.files.proofs.ValueTextLaws.{length-ended}
-
--- ---- the line of a slot
-
-module _ (x : Slot) where
-  -- four keys, each between a space and an equals sign
-  pub length-limits : length (limits_text x)
-      ≡ 26
-      + (length (limit_text (limit_in x.rbps))
-      + (length (limit_text (limit_in x.wbps)) + (length (limit_text (limit_in x.riops)) + length (limit_text (limit_in x.wiops)))))
-  length-limits = simp length-append (omega arith)
-
-  pub slot-free : x.device ≡ 0 → [] ≡ slot_text x
-  slot-free z = rw (eq-eqb x.device 0 z)
-
-  pub slot-line : (major minor : ℕ) → x.device ≢ 0 → major ≡ major_of (x.device - 1) → minor ≡ minor_of (x.device - 1)
-      → ended (device_text major minor ++ limits_text x) ≡ slot_text x
-  unfolding value_text spaced pair_texts
-  slot-line major minor nz a b = rw (a, b, ne_eqb x.device 0 nz)
-
-  pub length-slot : (major minor : ℕ) → x.device ≢ 0 → major ≡ major_of (x.device - 1) → minor ≡ minor_of (x.device - 1)
-      → length (slot_text x) ≡ length (device_text major minor) + (length (limits_text x) + 1)
-  length-slot major minor nz a b =
-      omega (
-        arith,
-        ap length (slot-line major minor nz a b),
-        length-ended (device_text major minor ++ limits_text x),
-        length-append (device_text major minor) (limits_text x),
-      )
-
--- ---- the lines of packed slots
+use Rattle.files.specs.Texts.{slot_text, file_contents}
 
 abbrev lines_of : List DeviceLimits → List ℕ
 lines_of ds = joined (map ended (map value_text (map shown_device ds)))
 
-no_lines : (xs : List Slot) → All (λ x. x ≡ free_slot) xs → joined (map slot_text xs) ≡ []
-unfolding All joined
-no_lines [] h = refl
-no_lines (x ∷ xs) h = rw h.0 (no_lines xs h.1)
+-- The text after the first i: the lines of the slots that are left make it the whole.
+pub record Lines (s : List Slot) (i : ℕ) (out whole : List ℕ) : Type 0 where
+  pub text : out ++ lines_of (table_of (drop i s)) ≡ whole
 
-slot-lines : (xs : List Slot) → Packed xs → joined (map slot_text xs) ≡ lines_of (table_of xs)
-unfolding Packed joined table_of
-slot-lines [] p = refl
-slot-lines (x ∷ xs) p =
-    split (is_free x)
-    (λ y. no_lines (x ∷ xs) (p.0 y) ∙ rw y)
-    (λ n. rw n (ap (λ (l : List ℕ). ended (value_text (shown_device (line_of x))) ++ l) (slot-lines xs p.1)))
+pub lines-none : {xs : List ℕ} {g : ℕ} {s : List Slot} {out : List ℕ} → Slotted xs g s → out ≡ [] → Lines s 0 out (file_contents xs g (Value IoMax))
+unfolding file_contents contents shown
+lines-none h e = record { text = rw e (ap lines_of h.table) }
 
--- ---- the file
+pub lines-all : {s : List Slot} {i : ℕ} {out whole : List ℕ} → Lines s i out whole → length s ≤ i → out ≡ whole
+unfolding table_of joined
+lines-all {s} {i} {out} p l = sym (append-nil out) ∙ (rw (drop_of_length-le s {i = i} l) at p.text)
 
-module _ (xs : List ℕ) (g : ℕ) (s : Slots) (k : KeptAt xs g) (h : Slotted xs g s) where
-  pub devices-text : slot_text s.a ++ (slot_text s.b ++ (slot_text s.c ++ (slot_text s.d ++ [])))
-      ≡ contents (facts_of (view xs)) g (Value IoMax)
-  unfolding joined contents shown
-  devices-text = slot-lines (rows s) (h.packed k.kept.spare) ∙ ap lines_of h.table
+module _ {s : List Slot} {i : ℕ} {out whole : List ℕ} (p : Lines s i out whole) (l : i < length s) (d : Slot) where
+  abbrev x : Slot
+  x = get_or s i d
 
-  pub length-devices : length (slot_text s.a)
-      + (length (slot_text s.b) + (length (slot_text s.c) + length (slot_text s.d)))
-      ≤ longest_devices
-  length-devices =
-      let whole : length (contents (facts_of (view xs)) g (Value IoMax)) ≤ longest_devices =
-      length-of-text (view xs) k.kept.formed g IoMax k.live in
-      omega (
-        arith,
-        ap length devices-text,
-        length-append (slot_text s.a) (slot_text s.b ++ (slot_text s.c ++ (slot_text s.d ++ []))),
-        length-append (slot_text s.b) (slot_text s.c ++ (slot_text s.d ++ [])),
-        length-append (slot_text s.c) (slot_text s.d ++ []),
-        length-append (slot_text s.d) [],
-      )
+  here : drop i s ≡ x ∷ drop (i + 1) s
+  here = rw add-one (drop-cons s i d l)
+
+  -- the first free slot ends it
+  pub lines-end : x.device ≡ 0 → out ≡ whole
+  unfolding table_of joined
+  lines-end z = sym (append-nil out) ∙ (rw (here, eq-eqb x.device 0 z) at p.text)
+
+  module _ (nz : x.device ≢ 0) where
+    lines-here : out ++ (slot_text x ++ lines_of (table_of (drop (i + 1) s))) ≡ whole
+    unfolding table_of joined
+    lines-here = rw (here, ne_eqb x.device 0 nz) at p.text
+
+    pub lines-next : {new : List ℕ} → new ≡ out ++ slot_text x → Lines s (i + 1) new whole
+    lines-next e = record { text = rw e (append_assoc out (slot_text x) (lines_of (table_of (drop (i + 1) s))) ∙ lines-here) }
+
+    pub lines-room : length out + length (slot_text x) ≤ length whole
+    lines-room =
+        omega (
+          arith,
+          ap length lines-here,
+          length-append out (slot_text x ++ lines_of (table_of (drop (i + 1) s))),
+          length-append (slot_text x) (lines_of (table_of (drop (i + 1) s))),
+        )

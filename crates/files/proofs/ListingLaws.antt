@@ -3,11 +3,11 @@
 use Prim.Native.Nat.{ℕ, zero, suc, ◌+◌, ◌-◌, ◌≤◌, ◌<◌}
 use native.Mathlib.Numerals.{add-one}
 use native.Mathlib.Omega.{arith}
-use mathlib.Core.Bool.{true, false}
+use mathlib.Core.Bool.{Bool, true, false}
 use mathlib.Core.List.{List, [], ◌∷◌, ◌++◌, append_assoc, append-nil}
+use mathlib.Core.Logic.{◌≢◌}
 use mathlib.Core.Path.{◌≡◌, ap, sym, ◌∙◌}
-use lib.ListN.{length, take, length-append}
-use lib.Seq.{length-take-le}
+use lib.ListN.{length, length-append}
 use Rattle.model.specs.Functions.{weigh, sum}
 use Rattle.model.specs.Sizes.{processes, longest_listing}
 use Rattle.model.specs.Tree.{Place, nowhere}
@@ -16,8 +16,6 @@ use Rattle.model.specs.Rules.{stands_in}
 use Rattle.model.specs.Files.{process_lines}
 use Rattle.model.proofs.FunctionLaws.{split, whether, weigh-yes, weigh-no}
 use Rattle.model.proofs.LengthLaws.{lines-listed, lines-skipped, lines_none, lines-from-one, bytes_below, length-line, bytes-to-all}
-use Rattle.text.specs.Write.{Appended}
-use Rattle.text.proofs.WriteLaws.{appended-inside}
 use Rattle.tree.specs.Kept.{members}
 
 -- of the numbers below p, how many stand in g
@@ -26,12 +24,9 @@ passed place g p = sum p (λ q. weigh (stands_in (place q) g) 1)
 
 -- the lines written so far, and those of the numbers from p on, are all the lines, of which `left` are not written; they have no more
 -- bytes than all lines of the numbers before p
-pub record Listing (place : ℕ → Place) (g : ℕ) (new : List ℕ) (at p left : ℕ) : Type 0 where
-  pub some : 1 ≤ p
-  pub low : p ≤ processes
-  pub short : at ≤ bytes_below p
-  pub inside : at ≤ length new
-  pub text : take at new ++ process_lines place g p (processes - p) ≡ process_lines place g 0 processes
+pub record Listing (place : ℕ → Place) (g : ℕ) (out : List ℕ) (p left : ℕ) : Type 0 where
+  pub short : length out ≤ bytes_below p
+  pub text : out ++ process_lines place g p (processes - p) ≡ process_lines place g 0 processes
   pub count : left + passed place g p ≡ members place g
 
 module _ (place : ℕ → Place) (g : ℕ) where
@@ -57,69 +52,58 @@ module _ (place : ℕ → Place) (g : ℕ) where
       ∙ rw (← add-one p) (none_left n (p + 1) (omega arith) (omega (arith, passed-next p, weigh-no (stands_in (place p) g) 1 o))))
 
   -- 0 is no process
-  pub listing_start : place 0 ≡ nowhere → (new : List ℕ) (left : ℕ) → left ≡ members place g → Listing place g new 0 1 left
+  pub listing_start : place 0 ≡ nowhere → (left : ℕ) → left ≡ members place g → Listing place g [] 1 left
   unfolding sum
-  listing_start none new left e =
+  listing_start none left e =
       record {
-        some = omega arith;
-        low = omega arith;
         short = omega arith;
-        inside = omega arith;
         text = sym (lines-from-one place g none);
         count = omega (arith, weigh-no (stands_in (place 0) g) 1 (ap (λ (l : Place). stands_in l g) none));
       }
 
-  module _ (new : List ℕ) (at p left : ℕ) (l : Listing place g new at p left) where
-    -- a process that is not listed yet has a number
-    pub listing-more : 0 < left → p < processes
-    unfolding members
-    listing-more h =
-        whether p processes
-        (λ e. absurd (omega (arith, ap (passed place g) e, l.count)))
-        (λ ne. omega (arith, l.low))
-
-    module _ (more : 0 < left) where
-      h : p < processes
-      h = listing-more more
-
+  module _ {out : List ℕ} {p left : ℕ} (l : Listing place g out p left) where
+    module _ (some : 1 ≤ p) (h : p < processes) where
       left_over : processes - p ≡ suc (processes - (p + 1))
-      left_over = omega (arith, h)
+      left_over = omega arith
 
       line : length (decimal p) + 1 + bytes_below p ≡ bytes_below (p + 1)
-      line = rw (length-append (decimal p) (10 ∷ [])) at (length-line p l.some h)
+      line = rw (length-append (decimal p) (10 ∷ [])) at (length-line p some h)
 
-      pub listing-room : longest_listing ≤ length new → at + length (decimal p) + 1 ≤ length new
-      listing-room r = omega (arith, l.short, line, bytes-to-all (p + 1) (omega arith) (omega (arith, h)))
+      pub listing-room : length out + length (decimal p) + 1 ≤ longest_listing
+      listing-room = omega (arith, l.short, line, bytes-to-all (p + 1) (omega arith) (omega arith))
 
-      pub listing-line : (out : List ℕ) (k : ℕ) → stands_in (place p) g ≡ true → Appended new at (ended (decimal p)) out k
-          → Listing place g out k (p + 1) (left - 1)
-      listing-line out k e w =
+      pub listing-line : {b : Bool} → b ≡ stands_in (place p) g → b ≡ true → left ≢ 0 → {new : List ℕ} {n : ℕ}
+          → new ≡ out ++ ended (decimal p) → n ≡ left - 1 → Listing place g new (p + 1) n
+      listing-line s y nz a m =
+          let e : stands_in (place p) g ≡ true = sym s ∙ y in
+          rw (a, m)
           record {
-            some = omega arith;
-            low = omega (arith, h);
-            short = omega (arith, l.short, w.end, length-append (decimal p) (10 ∷ []), line);
-            inside = appended-inside l.inside w;
+            short = omega (arith, l.short, length-append out (ended (decimal p)), length-append (decimal p) (10 ∷ []), line);
             text =
-                rw (w.front, append_assoc)
+                rw append_assoc
                 (rw (left_over, lines-listed place g p (processes - (p + 1)) e, ← add-one p) at l.text);
             count = omega (arith, l.count, passed-next p, weigh-yes (stands_in (place p) g) 1 e);
           }
 
-      pub listing-skip : stands_in (place p) g ≡ false → Listing place g new at (p + 1) left
-      listing-skip e =
+      pub listing-skip : {b : Bool} → b ≡ stands_in (place p) g → b ≡ false → {new : List ℕ} {n : ℕ} → new ≡ out → n ≡ left → Listing place g new (p + 1) n
+      listing-skip s y a m =
+          let e : stands_in (place p) g ≡ false = sym s ∙ y in
+          rw (a, m)
           record {
-            some = omega arith;
-            low = omega (arith, h);
             short = omega (arith, l.short, line);
-            inside = l.inside;
             text = rw (left_over, lines-skipped place g p (processes - (p + 1)) e, ← add-one p) at l.text;
             count = omega (arith, l.count, passed-next p, weigh-no (stands_in (place p) g) 1 e);
           }
 
-    pub listing-end : left ≤ 0 → (old : List ℕ) → Appended old 0 (process_lines place g 0 processes) new at
+    -- where none is left
+    pub listing-done : left ≡ 0 → p ≤ processes → out ≡ process_lines place g 0 processes
     unfolding members
-    listing-end z old =
+    listing-done z low =
         let all : passed place g p ≡ passed place g processes = omega (arith, l.count) in
-        let t : take at new ≡ process_lines place g 0 processes =
-        sym (append-nil (take at new)) ∙ (rw (none_left (processes - p) p (omega (arith, l.low)) all) at l.text) in
-        record { end = omega (arith, ap length t, length-take-le at new l.inside); front = t }
+        sym (append-nil out) ∙ (rw (none_left (processes - p) p (omega arith) all) at l.text)
+
+    -- and where every number was passed
+    pub listing-end : p ≡ processes → out ≡ process_lines place g 0 processes
+    listing-end e =
+        let z : processes - p ≡ 0 = omega arith in
+        sym (append-nil out) ∙ (rw (z, lines_none place g p) at l.text)

@@ -1,27 +1,84 @@
 -- Laws of paths and membership lines: a path by the parent's, and that more steps than the depth change nothing. Assumes nothing.
-use Prim.Native.Nat.{ℕ, zero, suc, ◌+◌, ◌-◌, ◌≤◌, ◌<◌}
-use native.Mathlib.Numerals.{sub-one}
-use native.Mathlib.Decide.{dec_lt}
+use Prim.Native.Nat.{ℕ, zero, suc, ◌+◌, ◌-◌, ◌*◌, ◌≤◌, ◌<◌}
 use native.Mathlib.Omega.{arith}
 use mathlib.Core.Bool.{Bool, true, false}
-use mathlib.Core.List.{List, [], ◌∷◌, ◌++◌, append_assoc}
+use mathlib.Core.List.{List, ◌++◌, append-nil}
 use mathlib.Core.Logic.{◌≢◌}
 use mathlib.Core.Path.{◌≡◌, refl, ap, sym, ◌∙◌}
 use lib.ListN.{length, length-append}
-use borrow.Author.Tests.{eq-eqb, ne_eqb}
-use Rattle.model.specs.Sizes.{groups, processes, deepest}
-use Rattle.model.specs.Tree.{Tree, Remnant, lives, remains}
-use Rattle.model.specs.Zombies.{there, or_remnant, path_parents, path_depths, process_taken, last_group}
-use Rattle.model.specs.Text.{bytes, newline, decimal}
-use Rattle.model.specs.Files.{path, deleted_mark, membership_line}
+use lib.Dec.{eqb}
+use borrow.Author.Tests.{eq-eqb, ne_eqb, eqb-true}
+use Rattle.model.specs.Sizes.{groups, deepest, longest_membership}
+use Rattle.model.specs.Tree.{Tree, lives}
+use Rattle.model.specs.Zombies.{there, path_parents, path_depths, last_group}
+use Rattle.model.specs.Text.{bytes, decimal}
+use Rattle.model.specs.Files.{path, deleted_mark}
 use Rattle.model.specs.WellFormed.{Sound}
 use Rattle.model.proofs.FunctionLaws.{split, whether, clash}
 use Rattle.model.proofs.LengthLaws.{path-root, path-up, length-path}
-use Rattle.model.proofs.ZombieLaws.{or-live, or-dead, last-there}
-use Rattle.model.proofs.ProcessLaws.{taken-out-of-range}
+use Rattle.model.proofs.ZombieLaws.{last-there}
 use Rattle.tree.specs.Layout.{view}
-use Rattle.tree.specs.Kept.{Kept}
-use Rattle.files.specs.Texts.{longest_path, longest_mark, place_path, ThereAt, HasPath}
+use Rattle.files.specs.Texts.{place_path, ThereAt, HasPath, HasLine}
+
+-- no path is longer: three digits and a "/" for each group on it; nor is the mark of a removed group
+abbrev longest_path : ℕ
+longest_path = deepest * 4
+
+abbrev longest_mark : ℕ
+longest_mark = 10
+
+-- ---- a group that is live or was removed
+
+-- by a test whether it is the root
+pub is_root : {g : ℕ} {b : Bool} → b ≡ eqb g 0 → b ≡ true → g ≡ 0
+is_root {g} e y = eqb-true g 0 (sym e ∙ y)
+
+pub not_root : {g : ℕ} {b : Bool} → b ≡ eqb g 0 → b ≡ false → g ≢ 0
+not_root {g} {b} e n z = clash b (e ∙ eq-eqb g 0 z) n
+
+module _ {xs : List ℕ} {g : ℕ} (k : ThereAt xs g) where
+  sound : Sound (there (view xs)) (path_parents (view xs)) (path_depths (view xs))
+  sound = k.kept.formed.past.paths
+
+  pub there_low : g < groups
+  there_low = sound.range g k.there
+
+  -- what a membership line shows of it
+  pub length-place : length (place_path (view xs) g) ≤ longest_path
+  length-place =
+      whether g 0
+      (λ e. rw (eq-eqb g 0 e) (omega arith))
+      (λ ne. rw (ne_eqb g 0 ne) (length-path sound deepest g k.there))
+
+-- ---- its path, by the path of its parent
+
+pub path-of-root : {xs out : List ℕ} {g deep : ℕ} → HasPath xs g deep out → g ≡ 0 → out ≡ out ++ path (path_parents (view xs)) deep g
+path-of-root {xs} {out} {g} {deep} h z = rw (path-root (path_parents (view xs)) deep g z) (sym (append-nil out))
+
+module _ {xs out : List ℕ} {g deep : ℕ} (h : HasPath xs g deep out) (nz : g ≢ 0) (p : ℕ) (e : p ≡ path_parents (view xs) g) where
+  below : path_depths (view xs) g ≡ suc (path_depths (view xs) p)
+  below = rw e ((sound h.group).deeper g h.group.there nz)
+
+  pub depth-some : 1 ≤ deep
+  depth-some = omega (arith, below, h.level)
+
+  pub path-next : path (path_parents (view xs)) (deep - 1) p ++ (bytes "/" ++ decimal g) ≡ path (path_parents (view xs)) deep g
+  path-next =
+      let d : deep ≡ suc (deep - 1) = omega (arith, depth-some) in
+      sym (ap (λ (k : ℕ). path (path_parents (view xs)) k g) d ∙ rw (← e) at (path-up (path_parents (view xs)) (deep - 1) g nz))
+
+  pub length-next : length (path (path_parents (view xs)) (deep - 1) p) + suc (length (decimal g)) ≡ length (path (path_parents (view xs)) deep g)
+  length-next = rw (← path-next, length-append)
+
+  pub path-above : HasPath xs p (deep - 1) out
+  path-above =
+      record {
+        group = record { kept = h.group.kept; there = rw e ((sound h.group).above g h.group.there nz) };
+        level = omega (arith, below, h.level);
+        room = omega (arith, length-next, h.room);
+      }
+
+-- ---- the path that a membership line shows of a group other than the root
 
 module _ {live : ℕ → Bool} {up depth : ℕ → ℕ} (s : Sound live up depth) where
   -- steps enough are enough
@@ -47,115 +104,18 @@ module _ {live : ℕ → Bool} {up depth : ℕ → ℕ} (s : Sound live up depth
   path-depth : (g : ℕ) → live g ≡ true → path up (depth g) g ≡ path up deepest g
   path-depth g l = path-alike (depth g) deepest g l (omega arith) (s.shallow g l)
 
-  module _ (g deep p : ℕ) (l : live g ≡ true) (d : deep ≡ depth g) (nz : deep ≢ 0) (e : p ≡ up g) where
-    -- a group of some depth is not the root
-    deep-below : g ≢ 0
-    deep-below z = nz (d ∙ ap depth z ∙ s.level)
+module _ {xs : List ℕ} {g deep : ℕ} (k : ThereAt xs g) (nz : g ≢ 0) (d : deep ≡ path_depths (view xs) g) where
+  pub place-path : path (path_parents (view xs)) deep g ≡ place_path (view xs) g
+  place-path = rw (d, ne_eqb g 0 nz) (path-depth (sound k) g k.there)
 
-    deep-live : live p ≡ true
-    deep-live = rw e (s.above g l deep-below)
-
-    deep-above : deep - 1 ≡ depth p
-    deep-above = rw e (omega (arith, s.deeper g l deep-below))
-
-    path-deep : path up (deep - 1) p ++ (bytes "/" ++ decimal g) ≡ path up deep g
-    path-deep = rw e (go deep nz)
-      where
-        go : (n : ℕ) → n ≢ 0 → path up (n - 1) (up g) ++ (bytes "/" ++ decimal g) ≡ path up n g
-        go zero ne = absurd (ne refl)
-        go (suc n) ne = rw sub-one (sym (path-up up n g deep-below))
-
-    length-path-deep : length (path up deep g) ≡ length (path up (deep - 1) p) + suc (length (decimal g))
-    length-path-deep = rw (← path-deep, length-append)
-
--- ---- parents and depths of groups that are there
-
-pub path-of-live : (t : Tree) (h : Remnant → ℕ) (f : ℕ → ℕ) (g r : ℕ) (b : Bool) → b ≡ lives t g → b ≡ true → r ≡ f g → r ≡ or_remnant h (lives t) f (remains t) g
-path-of-live t h f g r b e y q = q ∙ sym (or-live (lives t) (remains t) g h f (sym e ∙ y))
-
-pub path-of-removed : (t : Tree) (h : Remnant → ℕ) (f : ℕ → ℕ) (g r : ℕ) (b : Bool) → b ≡ lives t g → b ≡ false → r ≡ h (remains t g)
-    → r ≡ or_remnant h (lives t) f (remains t) g
-path-of-removed t h f g r b e n q = q ∙ sym (or-dead (lives t) (remains t) g h f (sym e ∙ n))
-
--- ---- a group that is not the root, by its parent
-
-pub there-low : {xs : List ℕ} {g : ℕ} → ThereAt xs g → g < groups
-there-low {xs} {g} k = k.kept.formed.past.paths.range g k.there
-
-module _ (xs : List ℕ) (g deep : ℕ) (out : List ℕ) (i : ℕ) (h : HasPath xs g deep out i) (nz : deep ≢ 0) (p : ℕ)
-    (e : p ≡ path_parents (view xs) g) where
-  sound : Sound (there (view xs)) (path_parents (view xs)) (path_depths (view xs))
-  sound = h.group.kept.formed.past.paths
-
-  pub path-text : path (path_parents (view xs)) (deep - 1) p ++ (bytes "/" ++ decimal g) ≡ path (path_parents (view xs)) deep g
-  path-text = path-deep sound g deep p h.group.there h.level nz e
-
-  pub path-fits : i + (length (path (path_parents (view xs)) (deep - 1) p) + suc (length (decimal g))) ≤ length out
-  path-fits = omega (arith, length-path-deep sound g deep p h.group.there h.level nz e, h.room)
-
-  pub path-above : HasPath xs p (deep - 1) out i
-  path-above =
-      record {
-        group = record { kept = h.group.kept; there = deep-live sound g deep p h.group.there h.level nz e };
-        level = deep-above sound g deep p h.group.there h.level nz e;
-        room = omega (arith, path-fits);
-      }
-
--- ---- the path that a membership line shows
-
-module _ (xs : List ℕ) (g : ℕ) (k : ThereAt xs g) where
-  s : Sound (there (view xs)) (path_parents (view xs)) (path_depths (view xs))
-  s = k.kept.formed.past.paths
-
-  pub place-root : g ≡ 0 → bytes "/" ≡ place_path (view xs) g
-  place-root e = rw (eq-eqb g 0 e)
-
-  pub place-path : g ≢ 0 → (deep : ℕ) → deep ≡ path_depths (view xs) g
-      → path (path_parents (view xs)) deep g ≡ place_path (view xs) g
-  place-path ne deep d = rw (d, ne_eqb g 0 ne) (path-depth s g k.there)
-
-  pub place-room : (out : List ℕ) (i deep : ℕ) → i + longest_path ≤ length out → deep ≡ path_depths (view xs) g
-      → HasPath xs g deep out i
-  place-room out i deep h d =
-      record {
-        group = k;
-        level = d;
-        room = omega (arith, length-path s deep g k.there, s.shallow g k.there);
-      }
-
-  pub length-place : length (place_path (view xs) g) ≤ longest_path
-  length-place =
-      whether g 0
-      (λ e. rw (eq-eqb g 0 e) (omega arith))
-      (λ ne. rw (ne_eqb g 0 ne) (length-path s deepest g k.there))
-
--- ---- its mark
-
-pub mark-live : (t : Tree) (g : ℕ) → lives t g ≡ true → [] ≡ deleted_mark t g
-mark-live t g l = rw l
-
-pub mark-removed : (t : Tree) (g : ℕ) → lives t g ≡ false → bytes " (deleted)" ≡ deleted_mark t g
-mark-removed t g n = rw n
+  pub place-room : (out : List ℕ) → length out + length (place_path (view xs) g) ≤ longest_membership → HasPath xs g deep out
+  place-room out r = record { group = k; level = omega arith; room = omega (arith, ap length place-path, r) }
 
 pub length-mark : (t : Tree) (g : ℕ) → length (deleted_mark t g) ≤ longest_mark
 length-mark t g = split (lives t g) (λ l. rw l (omega arith)) (λ n. rw n (omega arith))
 
 -- ---- the membership line of a live process or a zombie
 
-module _ (xs : List ℕ) (k : Kept xs) (p : ℕ) (l : process_taken (view xs) p ≡ true) where
-  pub taken-number : p < processes
-  taken-number =
-      elim (dec_lt p processes) [
-        | yes y ↦ y
-        | no n ↦ clash (process_taken (view xs) p) l (taken-out-of-range (view xs) k.formed p (omega arith))
-      ]
-
+module _ {xs out : List ℕ} {p : ℕ} (h : HasLine xs p out) where
   pub last-at : (g : ℕ) → g ≡ last_group (view xs) p → ThereAt xs g
-  last-at g e = record { kept = k; there = rw e (last-there (view xs) k.formed p l) }
-
-pub membership-text : (xs : List ℕ) (p g : ℕ) → g ≡ last_group (view xs) p
-    → bytes "0::" ++ (place_path (view xs) g ++ (deleted_mark (view xs) g ++ (newline ∷ []))) ≡ membership_line (view xs) p
-unfolding membership_line
-membership-text xs p g e =
-    rw e
-    (ap (λ (w : List ℕ). bytes "0::" ++ w) (sym (append_assoc (place_path (view xs) (last_group (view xs) p)) (deleted_mark (view xs) (last_group (view xs) p)) (newline ∷ []))))
+  last-at g e = record { kept = h.kept; there = rw e (last-there (view xs) h.kept.formed p h.taken) }

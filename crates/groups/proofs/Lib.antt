@@ -1,4 +1,3 @@
-pub mod ChildLaws
 pub mod MakeLaws
 pub mod RemoveLaws
 pub mod HandOverLaws

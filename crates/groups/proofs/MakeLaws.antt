@@ -1,5 +1,6 @@
 -- What an accepted make finds, and that its stores give the definitions' tree: no amount changes, and the parent counts one child
 -- more. Assumes nothing.
+use Rattle.std.specs.Prelude.{Ok}
 use Prim.Native.Nat.{ℕ, suc, ◌+◌, ◌≤◌, ◌<◌}
 use native.Mathlib.Omega.{arith}
 use native.Mathlib.Numerals.{add-one}
@@ -10,14 +11,13 @@ use lib.Dec.{eqb}
 use borrow.Author.Tests.{leb-false}
 use Rattle.model.specs.Functions.{upd, weigh}
 use Rattle.model.specs.Sizes.{groups, deepest}
-use Rattle.model.specs.Checks.{Pass}
+use Rattle.model.specs.Checks.{Pass, Answer}
 use Rattle.model.specs.Tree.{Tree, Core, Group, no_group, new_core, new_group, at_group, cores, lives, depths, places}
 use Rattle.model.specs.Hierarchy.{amount, facts_of}
 use Rattle.model.specs.Zombies.{group_taken}
 use Rattle.model.specs.Calls.{make, checks, verdict}
 use Rattle.model.specs.Effects.{effect}
 use Rattle.model.specs.declared.Resource.{Resource}
-use Rattle.model.specs.declared.Answer.TheVariants.{Done}
 use Rattle.model.proofs.FunctionLaws.{or-false, weigh-zero, upd-map}
 use Rattle.model.proofs.ZombieCounts.{zombies-after-make}
 use Rattle.model.proofs.AmountLaws.{amount-after-make}
@@ -33,7 +33,6 @@ use Rattle.tree.proofs.AdjustLaws.{sum-adjusted-at}
 use Rattle.tree.proofs.KeptLaws.{countable}
 use Rattle.tree.proofs.CountLaws.{children-after-make}
 use Rattle.tree.proofs.CallLaws.{applied}
-use Rattle.groups.proofs.ChildLaws.{children-apart, members-apart, zombies-apart}
 
 -- what the checks say where all pass
 pub record Makeable (t : Tree) (parent new : ℕ) : Type 0 where
@@ -43,10 +42,10 @@ pub record Makeable (t : Tree) (parent new : ℕ) : Type 0 where
   pub free : group_taken t new ≡ false
   pub shallow : depths t parent < deepest
 
-pub makeable : (t : Tree) (user parent new : ℕ) → verdict t (make user parent new) ≡ Done → Makeable t parent new
+pub makeable : (t : Tree) (user parent new : ℕ) → ◌≡◌ {A = Answer} (Ok tt) (verdict t (make user parent new)) → Makeable t parent new
 unfolding checks Pass
 makeable t user parent new v =
-    let k : Pass (checks (facts_of t) (make user parent new)) = passed t (make user parent new) v in
+    let k : Pass (checks (facts_of t) (make user parent new)) = passed t (make user parent new) (sym v) in
     record {
       above = omega (arith, leb-false);
       home = (search);
@@ -55,7 +54,7 @@ makeable t user parent new v =
       shallow = omega (arith, leb-false);
     }
 
-module _ (xs : List ℕ) (k : Kept xs) (user parent new : ℕ) (v : verdict (view xs) (make user parent new) ≡ Done) where
+module _ (xs : List ℕ) (k : Kept xs) (user parent new : ℕ) (v : ◌≡◌ {A = Answer} (Ok tt) (verdict (view xs) (make user parent new))) where
   m : Makeable (view xs) parent new
   m = makeable (view xs) user parent new v
 
@@ -105,13 +104,13 @@ module _ (xs : List ℕ) (k : Kept xs) (user parent new : ℕ) (v : verdict (vie
       let depth : ℕ = suc (depths (view xs) parent) in
       let w : Wrote zs ys (made depth) =
       subst (λ (t : Tree). Wrote zs ys (at_group t new (new_group parent depth user))) j.tree (rw (e, add-one) at p) in
-      applied xs k (make user parent new) v ys
+      applied xs k (make user parent new) (sym v) ys
       (record { long = w.long; tree = w.tree; sums = λ c a. w.sums c a ∙ counted depth c a; spare = w.spare (j.spare k.spare) })
     where
       counted : (depth : ℕ) (c : Counter) (a : ℕ) → sum_in zs c a ≡ count_in (made depth) c a
-      counted depth (Of r) a = j.other (Of r) (children-apart r) a ∙ k.sums (Of r) a ∙ sym (amount-same depth r a)
+      counted depth (Of r) a = j.other (Of r) (λ e. cc) a ∙ k.sums (Of r) a ∙ sym (amount-same depth r a)
       counted depth Children a = count-above zs j depth a
-      counted depth Members a = j.other Members members-apart a ∙ k.sums Members a
+      counted depth Members a = j.other Members (λ e. cc) a ∙ k.sums Members a
       counted depth Zombies a =
-          j.other Zombies zombies-apart a ∙ k.sums Zombies a
+          j.other Zombies (λ e. cc) a ∙ k.sums Zombies a
           ∙ sym (zombies-after-make (view xs) k.formed (new_group parent depth user) new m.free a)

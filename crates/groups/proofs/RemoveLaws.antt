@@ -1,6 +1,7 @@
 -- What an accepted remove finds, that the pages it passes on fit a word, and that its stores give the definitions' tree:
 -- the pages stay inside every group above, so that no other group's amount changes, its parent has one child less, and what
 -- zombies' paths need is left of the group. Assumes nothing.
+use Rattle.std.specs.Prelude.{Ok}
 use Prim.Native.Nat.{ℕ, ◌+◌, ◌^◌, ◌≤◌, ◌<◌}
 use native.Mathlib.Omega.{arith}
 use mathlib.Core.Bool.{true, not}
@@ -11,7 +12,7 @@ use lib.Dec.{eqb}
 use borrow.Author.Tests.{eqb-false, eq-eqb, ne_eqb}
 use Rattle.model.specs.Functions.{upd, weigh}
 use Rattle.model.specs.Sizes.{groups}
-use Rattle.model.specs.Checks.{Pass}
+use Rattle.model.specs.Checks.{Pass, Answer}
 use Rattle.model.specs.Tree.{Tree, Core, Group, at, Remnant, no_remnant, remnant, no_core, no_group, at_group, with_past, zombies, remains, cores, lives, parents, depths, places}
 use Rattle.model.specs.Hierarchy.{amount, facts_of}
 use Rattle.model.specs.Zombies.{path_parents, on_path}
@@ -19,8 +20,6 @@ use Rattle.model.specs.Calls.{remove, checks, verdict}
 use Rattle.model.specs.Effects.{kept_if, charged, removed, effect}
 use Rattle.model.specs.WellFormed.{WellFormed}
 use Rattle.model.specs.declared.Resource.{Resource}
-use Rattle.model.specs.declared.Resource.TheVariants.{Pages, Processes}
-use Rattle.model.specs.declared.Answer.TheVariants.{Done}
 use Rattle.model.proofs.FunctionLaws.{whether, weigh-zero, upd_same, upd-map, upd-again}
 use Rattle.model.proofs.RuleLaws.{NoChild}
 use Rattle.model.proofs.AmountLaws.{amount-after-remove}
@@ -33,18 +32,16 @@ use Rattle.tree.specs.Kept.{children, count_in, Kept, KeptAt}
 use Rattle.tree.specs.Calling.{Applied}
 use Rattle.tree.specs.declared.sum.Counter.{Counter}
 use Rattle.tree.specs.declared.sum.Counter.TheVariants.{Of, Children, Members, Zombies}
-use Rattle.tree.proofs.AdjustLaws.{counters-apart, sum-adjusted-at}
+use Rattle.tree.proofs.AdjustLaws.{sum-adjusted-at}
 use Rattle.tree.proofs.KeptLaws.{parent-low, own-small, count_small, countable}
 use Rattle.tree.proofs.CountLaws.{count-dead, child-counted, children-after-remove}
 use Rattle.tree.proofs.CallLaws.{applied}
-use Rattle.groups.proofs.ChildLaws.{children-apart, members-apart, zombies-apart}
 
 -- by whether zombies are counted
 by-counter : (P : Counter → Type 0) (c : Counter) → (c ≢ Zombies → P c) → P Zombies → P c
-by-counter P (Of Pages) f z = f (counters-apart (Of Pages) Zombies (λ e. omega arith))
-by-counter P (Of Processes) f z = f (counters-apart (Of Processes) Zombies (λ e. omega arith))
-by-counter P Children f z = f (counters-apart Children Zombies (λ e. omega arith))
-by-counter P Members f z = f (counters-apart Members Zombies (λ e. omega arith))
+by-counter P (Of r) f z = f (λ e. cc)
+by-counter P Children f z = f (λ e. cc)
+by-counter P Members f z = f (λ e. cc)
 by-counter P Zombies f z = z
 
 -- what the checks say where all pass
@@ -54,7 +51,7 @@ record Removable (t : Tree) (g : ℕ) : Type 0 where
   childless : NoChild (lives t) (parents t) g
   empty : (p : ℕ) → places t p ≢ at g
 
-removable : (t : Tree) (user g : ℕ) → WellFormed t → verdict t (remove user g) ≡ Done → Removable t g
+removable : (t : Tree) (user g : ℕ) → WellFormed t → verdict t (remove user g) ≡ (Ok tt) → Removable t g
 unfolding checks Pass
 removable t user g w v =
     let k : Pass (checks (facts_of t) (remove user g)) = passed t (remove user g) v in
@@ -65,7 +62,10 @@ removable t user g w v =
       empty = no-process t w g (search);
     }
 
-module _ (xs : List ℕ) (k : Kept xs) (user g : ℕ) (v : verdict (view xs) (remove user g) ≡ Done) where
+module _ (xs : List ℕ) (k : Kept xs) (user g : ℕ) (o : ◌≡◌ {A = Answer} (Ok tt) (verdict (view xs) (remove user g))) where
+  v : verdict (view xs) (remove user g) ≡ Ok tt
+  v = sym o
+
   here : Removable (view xs) g
   here = removable (view xs) user g k.formed v
 
@@ -150,10 +150,10 @@ module _ (xs : List ℕ) (k : Kept xs) (user g : ℕ) (v : verdict (view xs) (re
 
   counted : (us : List ℕ) → AdjustedAt xs us Children (parents (view xs) g) 0 1 → (c : Counter) (a : ℕ) → a ≢ g
       → sum_in us c a ≡ count_in (removed (view xs) g) c a
-  counted us d (Of r) a ne = d.other (Of r) (children-apart r) a ∙ k.sums (Of r) a ∙ sym (amount-same r a ne)
+  counted us d (Of r) a ne = d.other (Of r) (λ e. cc) a ∙ k.sums (Of r) a ∙ sym (amount-same r a ne)
   counted us d Children a ne = count-above us d a
-  counted us d Members a ne = d.other Members members-apart a ∙ k.sums Members a
-  counted us d Zombies a ne = d.other Zombies zombies-apart a ∙ k.sums Zombies a ∙ sym (zombies-same a)
+  counted us d Members a ne = d.other Members (λ e. cc) a ∙ k.sums Members a
+  counted us d Zombies a ne = d.other Zombies (λ e. cc) a ∙ k.sums Zombies a ∙ sym (zombies-same a)
 
   -- The words after the row was cleared, where x zombies are inside; then what is left of the group.
   module _ (us zs ys : List ℕ) (p m n : ℕ) (a : p ≡ parents (view xs) g) (b : m ≡ ((view xs).group p).core.own) (d : n ≡ ((view xs).group g).core.own)

@@ -1,5 +1,5 @@
 -- The first bad word of a line, from that of its text: where it is, and whether there is one. Assumes nothing.
-use Prim.Native.Nat.{ℕ, ◌+◌, ◌-◌, ◌≤◌}
+use Prim.Native.Nat.{ℕ, ◌+◌, ◌-◌}
 use mathlib.Core.Bool.{Bool, true, false, not}
 use mathlib.Core.List.{List}
 use mathlib.Core.Path.{◌≡◌, refl, ap}
@@ -9,10 +9,8 @@ use lib.ListN.{length, take, drop}
 use borrow.Author.Tests.{eq-eqb, ne_eqb, eqb-true, eqb-false}
 use Rattle.model.specs.Text.{body, leading_word}
 use Rattle.model.specs.Control.{bad_rest, has_bad_word, first_bad_word}
-use Rattle.text.specs.Line.{LineEnd}
 use Rattle.lines.specs.Control.{BadSpan}
-use Rattle.text.specs.declared.line.Span.{Span}
-use Rattle.text.proofs.LineLaws.{line-end-inside}
+use Rattle.std.specs.declared.ops.Range.{Range}
 
 same_test : (a b c d : ℕ) → (c ≡ d → a ≡ b) → (a ≡ b → c ≡ d) → eqb a b ≡ eqb c d
 same_test a b c d f g = go (eqb c d) refl
@@ -21,23 +19,20 @@ same_test a b c d f g = go (eqb c d) refl
     go true e = eq-eqb a b (f (eqb-true c d e))
     go false e = ne_eqb a b (λ h. eqb-false c d e (g h))
 
-module _ (line : List ℕ) (n : ℕ) (e : LineEnd line n) (p : Span) (s : BadSpan (take n line) p) where
+module _ (line text : List ℕ) (e : text ≡ body line) (p : Range ℕ) (s : BadSpan text p) where
   left : length (body line) ≡ p.start + length (bad_rest line)
   unfolding bad_rest
-  left = (rw e.text at s).left
+  left = (rw e at s).left
 
   size : p.end ≡ p.start + length (leading_word (bad_rest line))
   unfolding bad_rest
-  size = (rw e.text at s).size
+  size = (rw e at s).size
 
-  pub bad-inside : p.end ≤ length line
-  bad-inside = omega (arith, line-end-inside line n e, e.end, ap length e.text, s.inside.bound)
-
-  pub bad-has : not (eqb p.start n) ≡ has_bad_word line
+  pub bad-has : not (eqb p.start (length text)) ≡ has_bad_word line
   bad-has =
       ap not
-      (same_test p.start n (length (bad_rest line)) 0
-      (λ h. omega (arith, left, e.end)) (λ h. omega (arith, left, e.end)))
+      (same_test p.start (length text) (length (bad_rest line)) 0
+      (λ h. omega (arith, left, ap length e)) (λ h. omega (arith, left, ap length e)))
 
   pub bad-start : p.start ≡ (first_bad_word line).start
   unfolding first_bad_word

@@ -1,84 +1,43 @@
--- Laws of control lines: one word by its sign and its name, what the words that are left ask, the first bad word.
--- Assumes nothing.
-use Prim.Native.Nat.{ℕ, ◌-◌, ◌≤◌, ◌<◌}
-use mathlib.Core.Bool.{true, false}
-use mathlib.Core.List.{List, [], ◌∷◌}
-use mathlib.Core.Path.{◌≡◌, refl, ◌∙◌}
+-- Laws of control lines: what the words that are left ask, and the first bad word. Assumes nothing.
+use Prim.Native.Nat.{ℕ, ◌+◌, ◌-◌, ◌≤◌}
+use mathlib.Core.Bool.{Bool, true, false, not}
+use mathlib.Core.List.{List, [], ◌∷◌, ◌++◌}
+use mathlib.Core.Path.{◌≡◌, refl, ap, sym, ◌∙◌}
 use native.Mathlib.Omega.{arith}
+use lib.ListN.{length, length-append}
 use lib.Dec.{eqb}
-use lib.ListN.{length, get_or, take, drop, length-drop}
-use lib.Seq.{length-take-le, take_all}
-use borrow.Author.Tests.{eq-eqb, ne_eqb}
-use Rattle.model.specs.Functions.{pick, known}
+use lib.Pointwise.{pointwise}
+use borrow.Author.Tests.{eq-eqb}
 use Rattle.model.specs.Text.{same_bytes, leading_word, starts}
-use Rattle.model.specs.Names.{controller_name, controller_named}
-use Rattle.model.specs.Control.{Ask, keep, enable, disable, plus_sign, minus_sign, is_control_word, asked_by, or_before}
-use Rattle.model.specs.Control.{asked_from, first_bad}
+use Rattle.model.specs.Names.{controller_name}
+use Rattle.model.specs.Control.{Ask, enable, disable, is_control_word, asked_by, or_before, asked_from, first_bad}
 use Rattle.model.specs.declared.Controller.{Controller}
-use Rattle.text.specs.Line.{spanned, NextWord}
+use Rattle.text.specs.Line.{FirstWord}
+use Rattle.text.proofs.SameLaws.{same-pointwise}
 use Rattle.lines.specs.Control.{BadSpan}
-use Rattle.text.specs.declared.line.Span.{Span}
-use Rattle.text.proofs.WordLaws.{starts-out}
 
--- ---- one word, by its sign and the name after it
+-- ---- one word, by its sign s and the name after it, where n is the controller's
 
-abbrev pub name_of : List ℕ → List ℕ
-name_of w = take (length w - 1) (drop 1 w)
+is-not : (b : Bool) (t : Bool) → t ≡ not b → b ≡ not t
+is-not true t e = rw e refl
+is-not false t e = rw e refl
 
-name-cons : (b : ℕ) (w : List ℕ) → name_of (b ∷ w) ≡ w
-name-cons b w = take_all (length (b ∷ w) - 1) w (omega arith)
+module _ (c : Controller) (word : List ℕ) (s : ℕ) (name n : List ℕ) (w : word ≡ s ∷ name) (is : n ≡ controller_name c) (a : Ask) where
+  names : (t : Bool) → t ≡ not (pointwise eqb name n) → same_bytes name (controller_name c) ≡ not t
+  names t e = same-pointwise name (controller_name c) ∙ ap (pointwise eqb name) (sym is) ∙ is-not _ t e
 
-pub control-none : (w : List ℕ) → length w ≡ 0 → is_control_word w ≡ false
-unfolding is_control_word
-control-none [] h = refl
-control-none (b ∷ w) h = absurd (omega arith)
+  pub asked-other : true ≡ not (pointwise eqb name n) → a ≡ or_before a (asked_by c word)
+  unfolding asked_by
+  asked-other e = rw (w, names true e) refl
 
-pub ask-none : (c : Controller) (w : List ℕ) → length w ≡ 0 → asked_by c w ≡ keep
-unfolding asked_by
-ask-none c [] h = refl
-ask-none c (b ∷ w) h = absurd (omega arith)
+  module _ (e : false ≡ not (pointwise eqb name n)) where
+    pub asked-plus : s ≡ 43 → enable ≡ or_before a (asked_by c word)
+    unfolding asked_by
+    asked-plus p = rw (w, names false e, eq-eqb s 43 p) refl
 
-control-word : (w : List ℕ) → (length w ≡ 0 → ⊥)
-    → is_control_word w
-    ≡ pick (eqb (get_or w 0 0) plus_sign) (known (controller_named (name_of w)))
-    (pick (eqb (get_or w 0 0) minus_sign) (known (controller_named (name_of w))) false)
-unfolding is_control_word
-control-word [] h = absurd (h refl)
-control-word (b ∷ w) h = rw (name-cons b w)
-
-ask-word : (c : Controller) (w : List ℕ) → (length w ≡ 0 → ⊥)
-    → asked_by c w
-    ≡ pick (same_bytes (name_of w) (controller_name c))
-    (pick (eqb (get_or w 0 0) plus_sign) enable (pick (eqb (get_or w 0 0) minus_sign) disable keep)) keep
-unfolding asked_by
-ask-word c [] h = absurd (h refl)
-ask-word c (b ∷ w) h = rw (name-cons b w)
-
-module _ (w : List ℕ) (h : length w ≡ 0 → ⊥) where
-  pub control-plus : get_or w 0 0 ≡ plus_sign → is_control_word w ≡ known (controller_named (name_of w))
-  control-plus p = control-word w h ∙ rw (eq-eqb (get_or w 0 0) plus_sign p)
-
-  module _ (n : get_or w 0 0 ≡ plus_sign → ⊥) where
-    pub control-minus : get_or w 0 0 ≡ minus_sign → is_control_word w ≡ known (controller_named (name_of w))
-    control-minus m = control-word w h ∙ rw (ne_eqb (get_or w 0 0) plus_sign n, eq-eqb (get_or w 0 0) minus_sign m)
-
-    pub control-other : (get_or w 0 0 ≡ minus_sign → ⊥) → is_control_word w ≡ false
-    control-other m = control-word w h ∙ rw (ne_eqb (get_or w 0 0) plus_sign n, ne_eqb (get_or w 0 0) minus_sign m)
-
-module _ (c : Controller) (w : List ℕ) (h : length w ≡ 0 → ⊥) where
-  pub ask-other : same_bytes (name_of w) (controller_name c) ≡ false → asked_by c w ≡ keep
-  ask-other d = ask-word c w h ∙ rw d
-
-  module _ (e : same_bytes (name_of w) (controller_name c) ≡ true) where
-    pub ask-plus : get_or w 0 0 ≡ plus_sign → asked_by c w ≡ enable
-    ask-plus p = ask-word c w h ∙ rw (e, eq-eqb (get_or w 0 0) plus_sign p)
-
-    module _ (n : get_or w 0 0 ≡ plus_sign → ⊥) where
-      pub ask-minus : get_or w 0 0 ≡ minus_sign → asked_by c w ≡ disable
-      ask-minus m = ask-word c w h ∙ rw (e, ne_eqb (get_or w 0 0) plus_sign n, eq-eqb (get_or w 0 0) minus_sign m)
-
-      pub ask-unsigned : (get_or w 0 0 ≡ minus_sign → ⊥) → asked_by c w ≡ keep
-      ask-unsigned m = ask-word c w h ∙ rw (e, ne_eqb (get_or w 0 0) plus_sign n, ne_eqb (get_or w 0 0) minus_sign m)
+    pub asked-minus : s ≡ 45 → disable ≡ or_before a (asked_by c word)
+    unfolding asked_by
+    asked-minus p = rw (w, names false e, p) refl
 
 -- ---- the words ws that are left, after which a is asked, where all the words ask r
 
@@ -92,43 +51,35 @@ module _ (a r : Ask) (c : Controller) (ws : List (List ℕ)) (inv : asked_from a
   unfolding asked_from
   asked-more b w vs e f = rw f (rw e at inv)
 
--- ---- the first bad word, where the search from `at` has found the next word
+-- ---- the first bad word, where w is the first word of what is left, and r what follows it
 
-module _ (l : List ℕ) (at : ℕ) (p : Span) (w : NextWord l at p) where
-  pub bad-none : p.start ≡ length l → first_bad (starts (drop at l)) ≡ []
+module _ (l w r : List ℕ) (f : FirstWord l w r) where
+  pub bad-later : is_control_word w ≡ true → first_bad (starts r) ≡ first_bad (starts l)
   unfolding first_bad
-  bad-none h = rw (w.none h)
+  bad-later g = rw (f.starts, f.word, g)
 
-  module _ (h : p.start < length l) where
-    pub bad-later : is_control_word (spanned l p) ≡ true → first_bad (starts (drop p.end l)) ≡ first_bad (starts (drop at l))
-    unfolding first_bad
-    bad-later g = rw (w.rest h, ← w.word, g)
+  pub bad-here : is_control_word w ≡ false → first_bad (starts l) ≡ w ++ r
+  unfolding first_bad
+  bad-here g = rw (f.starts, f.word, g)
 
-    pub bad-here : is_control_word (spanned l p) ≡ false → first_bad (starts (drop at l)) ≡ drop p.start l
-    unfolding first_bad
-    bad-here g = rw (w.rest h, ← w.word, g)
+  pub shorter : length w + length r ≤ length l
+  shorter = omega (arith, f.long, length-append w r)
 
-pub bad-out : (l : List ℕ) (at : ℕ) → at ≡ length l → first_bad (starts (drop at l)) ≡ []
-unfolding first_bad
-bad-out l at h = rw (starts-out l at h)
+  pub bad-span-here : (text : List ℕ) → first_bad (starts text) ≡ w ++ r → (n : ℕ) → n + length r ≡ length text
+      → length w ≤ n → BadSpan text (record { start = n - length w; end = n })
+  bad-span-here text b n e h =
+      record {
+        order = omega arith;
+        bound = omega arith;
+        left = rw b (omega (arith, length-append w r));
+        size = rw (b, f.word) (omega arith);
+      }
 
-pub bad-span-here : (l : List ℕ) (at : ℕ) (p : Span) → NextWord l at p → first_bad (starts l) ≡ drop p.start l
-    → BadSpan l p
-bad-span-here l at p w b =
-    let i = w.inside in
-    let rest : p.end - p.start ≤ length (drop p.start l) = omega (arith, length-drop p.start l) in
-    record {
-      inside = i;
-      left = rw b (omega (arith, length-drop p.start l));
-      size = rw (b, ← w.word) (omega (arith, length-take-le (p.end - p.start) (drop p.start l) rest));
-    }
-
-pub bad-span-none : (l : List ℕ) (s : ℕ) → s ≡ length l → first_bad (starts l) ≡ []
-    → BadSpan l (record { start = s; end = s })
+pub bad-span-none : (text : List ℕ) → first_bad (starts text) ≡ [] → BadSpan text (record { start = length text; end = length text })
 unfolding leading_word
-bad-span-none l s h b =
-    record {
-      inside = record { order = omega arith; bound = omega arith };
-      left = rw b (omega arith);
-      size = rw b (omega arith);
-    }
+bad-span-none text b =
+    record { order = omega arith; bound = omega arith; left = rw b (omega arith); size = rw b (omega arith) }
+
+pub bad-none : (l : List ℕ) → starts l ≡ [] → first_bad (starts l) ≡ []
+unfolding first_bad
+bad-none l e = rw e

@@ -1,7 +1,6 @@
 pub mod NameLaws
-pub mod ControlLaws
-pub mod BadWordLaws
 pub mod PairLaws
 pub mod RangeLaws
 pub mod ValueLaws
-pub mod AmountLaws
+pub mod ControlLaws
+pub mod BadWordLaws

@@ -1,12 +1,13 @@
--- Laws of ranges: a range tested from below, tests one after another, the device of io.max; and clipping. Assumes nothing.
-use Prim.Native.Nat.{ℕ, ◌-◌, ◌^◌, ◌≤◌, ◌<◌}
+-- Laws of ranges: clipping. Assumes nothing.
+use Rattle.std.specs.Prelude.{Option, Some, None}
+use Prim.Native.Nat.{ℕ, ◌-◌, ◌^◌, ◌<◌}
 use mathlib.Core.Bool.{Bool, true, false, ◌&&◌}
 use mathlib.Core.Path.{◌≡◌, refl, ap, ap₂, sym, ◌∙◌}
 use native.Mathlib.Omega.{arith}
 use lib.Dec.{leb, ltb}
-use borrow.Author.Tests.{le-leb, lt-leb, ltb-true, ltb-false, lt-ltb, le-ltb}
+use borrow.Author.Tests.{lt-leb, ltb-true, ltb-false, lt-ltb, le-ltb}
 use Rattle.model.specs.Sizes.{device_numbers, largest_rate}
-use Rattle.model.specs.Devices.{pair_of}
+use Rattle.model.specs.Devices.{pair_of, Pairs}
 use Rattle.model.specs.DeviceLines.{device_in, pair_in, pairs_in}
 use Rattle.model.specs.Settings.{between, figure_in, largest, in_range}
 use Rattle.model.specs.declared.Resource.{Resource}
@@ -15,9 +16,6 @@ use Rattle.model.specs.declared.Limit.{Limit}
 use Rattle.model.specs.declared.Limit.TheVariants.{NoLimit, Figure}
 use Rattle.model.specs.declared.Key.{Key}
 use Rattle.model.specs.declared.Key.TheVariants.{Rbps, Wbps, Riops, Wiops}
-use Rattle.model.specs.declared.Pair.{Pair}
-use Rattle.model.specs.declared.Pair.TheVariants.{Absent, Given}
-use Rattle.model.specs.declared.Pairs.{Pairs}
 use Rattle.model.specs.declared.SettingValue.{SettingValue}
 use Rattle.model.specs.declared.SettingValue.TheVariants.{Weight, Quota, Bandwidth, Device, Maximum}
 use Rattle.model.proofs.FunctionLaws.{split, and_left, and_right}
@@ -32,42 +30,12 @@ use Rattle.lines.specs.Value.{clipped}
 -- ---- a range
 
 module _ (low high n : ℕ) where
-  pub below-range : n < low → false ≡ between low high n
-  below-range h = rw (lt-leb low n h)
-
-  pub above_low : low ≤ n → leb n high ≡ between low high n
-  above_low h = rw (le-leb low n h)
-
   above-range : high < n → between low high n ≡ false
   above-range h = rw (lt-leb n high h) (go (leb low n))
     where
       go : (t : Bool) → t && false ≡ false
       go true = refl
       go false = refl
-
--- ---- tests, one after another: a, then b
-
-pub test-fails : (a b : Bool) → a ≡ false → false ≡ (a && b)
-test-fails a b h = rw h
-
-pub test-passes : (a b t : Bool) → a ≡ true → t ≡ b → t ≡ (a && b)
-test-passes a b t h e = e ∙ rw h
-
--- ---- a device
-
-module _ (a b : ℕ) (p : Pairs) where
-  pub major-out : device_numbers ≤ a → false ≡ in_range (Device a b p)
-  unfolding in_range
-  major-out h = rw (le-ltb a device_numbers h)
-
-  module _ (h : a < device_numbers) where
-    pub minor-out : device_numbers ≤ b → false ≡ in_range (Device a b p)
-    unfolding in_range
-    minor-out k = rw (lt-ltb a device_numbers h, le-ltb b device_numbers k)
-
-    pub numbers-in : (t : Bool) → b < device_numbers → t ≡ pairs_in p → t ≡ in_range (Device a b p)
-    unfolding in_range
-    numbers-in t k e = e ∙ rw (lt-ltb a device_numbers h, lt-ltb b device_numbers k)
 
 -- ---- clipping: it does not change whether a value is in its range, and leaves a value that is
 
@@ -102,13 +70,13 @@ below-clip n =
 clip-below : (n : ℕ) → ltb n device_numbers ≡ true → clip n ≡ n
 clip-below n h = omega (arith, ltb-true n device_numbers h)
 
-pair_in-clip : (x : Pair) → pair_in (clipped_pair x) ≡ pair_in x
-pair_in-clip Absent = refl
-pair_in-clip (Given l) = figure_in-clip 1 largest_rate (omega arith) l
+pair_in-clip : (x : Option Limit) → pair_in (clipped_pair x) ≡ pair_in x
+pair_in-clip None = refl
+pair_in-clip (Some l) = figure_in-clip 1 largest_rate (omega arith) l
 
-clip-pair_in : (x : Pair) → pair_in x ≡ true → clipped_pair x ≡ x
-clip-pair_in Absent h = refl
-clip-pair_in (Given l) h = ap Given (clip-figure_in 1 largest_rate (omega arith) l h)
+clip-pair_in : (x : Option Limit) → pair_in x ≡ true → clipped_pair x ≡ x
+clip-pair_in None h = refl
+clip-pair_in (Some l) h = ap Some (clip-figure_in 1 largest_rate (omega arith) l h)
 
 pairs_in-clip : (p : Pairs) → pairs_in (clipped_pairs p) ≡ pairs_in p
 pairs_in-clip p = simp pair_in-clip

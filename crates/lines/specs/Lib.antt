@@ -1,4 +1,3 @@
-pub mod Name
 pub mod Control
 pub mod Pair
 pub mod Value

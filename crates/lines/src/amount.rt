@@ -39,25 +39,25 @@ pub fn to_figure(r: Resource, n: u64) -> u64
     }
 }
 
-// A limit of the file as the tree keeps it.
+// A limit of the file as the tree keeps it, and one of the tree as the file shows it. Not one function over the amount: the second
+// asks that its product fits, the first asks nothing.
 pub fn stored_limit(r: Resource, l: Limit) -> Limit
     ensures { result ≡ map_limit (to_amount r) l }
 {
-    let Limit::Figure(n) = l else {
-        return Limit::NoLimit;
-    };
-    Limit::Figure(to_amount(r, n))
+    match l {
+        Limit::NoLimit => Limit::NoLimit,
+        Limit::Figure(n) => Limit::Figure(to_amount(r, n)),
+    }
 }
 
-// A limit of the tree as the file shows it.
 pub fn shown_limit(r: Resource, l: Limit) -> Limit
     requires { figure_in 0 (largest r) (map_limit (to_figure r) l) ≡ true }
     ensures { result ≡ map_limit (to_figure r) l }
 {
-    let Limit::Figure(n) = l else {
-        return Limit::NoLimit;
-    };
-    Limit::Figure(to_figure(r, n))
+    match l {
+        Limit::NoLimit => Limit::NoLimit,
+        Limit::Figure(n) => Limit::Figure(to_figure(r, n)),
+    }
 }
 
 // A device by its major and minor number.

@@ -3,7 +3,7 @@ ghost use Rattle.std.specs.Prelude.{◌≡◌};
 ghost use Rattle.model.specs.DeviceLines.{pair_in, pairs_in};
 ghost use Rattle.model.specs.Settings.{between, figure_in, largest, in_range};
 
-use model::{Limit, Pair, Pairs, Resource, SettingValue};
+use model::{Limit, Pairs, Resource, SettingValue};
 
 const LEAST_WEIGHT: u64 = 1;
 
@@ -31,19 +31,16 @@ const LARGEST_RATE: u64 = 4503599627370496;
 fn is_between(low: u64, high: u64, n: u64) -> bool
     ensures { result ≡ between low high n }
 {
-    if n < low {
-        return false;
-    }
-    n <= high
+    (low..=high).contains(&n)
 }
 
 fn is_figure_in(low: u64, high: u64, limit: Limit) -> bool
     ensures { result ≡ figure_in low high limit }
 {
-    let Limit::Figure(n) = limit else {
-        return true;
-    };
-    is_between(low, high, n)
+    match limit {
+        Limit::NoLimit => true,
+        Limit::Figure(n) => is_between(low, high, n),
+    }
 }
 
 fn largest_of(resource: Resource) -> u64
@@ -56,57 +53,42 @@ fn largest_of(resource: Resource) -> u64
 }
 
 // Both words of cpu.max.
+#[tactic(auto, unfolding(model::specs::Settings::in_range))]
 fn is_bandwidth(quota: Limit, period: u64) -> bool
     ensures { result ≡ in_range (SettingValue.Bandwidth quota period) }
 {
-    if !is_figure_in(LEAST_QUOTA, LARGEST_QUOTA, quota) {
-        return false;
-    }
-    is_between(LEAST_PERIOD, LARGEST_PERIOD, period)
+    is_figure_in(LEAST_QUOTA, LARGEST_QUOTA, quota)
+        && is_between(LEAST_PERIOD, LARGEST_PERIOD, period)
 }
 
-fn is_pair_in(pair: Pair) -> bool
+fn is_pair_in(pair: Option<Limit>) -> bool
     ensures { result ≡ pair_in pair }
 {
-    let Pair::Given(limit) = pair else {
-        return true;
-    };
-    is_figure_in(LEAST_RATE, LARGEST_RATE, limit)
+    match pair {
+        None => true,
+        Some(limit) => is_figure_in(LEAST_RATE, LARGEST_RATE, limit),
+    }
 }
 
 fn are_pairs_in(pairs: Pairs) -> bool
     ensures { result ≡ pairs_in pairs }
 {
-    let rbps = pairs.rbps;
-    if !is_pair_in(rbps) {
-        return false;
-    }
-    let wbps = pairs.wbps;
-    if !is_pair_in(wbps) {
-        return false;
-    }
-    let riops = pairs.riops;
-    if !is_pair_in(riops) {
-        return false;
-    }
-    let wiops = pairs.wiops;
-    is_pair_in(wiops)
+    is_pair_in(pairs.rbps)
+        && is_pair_in(pairs.wbps)
+        && is_pair_in(pairs.riops)
+        && is_pair_in(pairs.wiops)
 }
 
 // All of a line of io.max.
+#[tactic(auto, unfolding(model::specs::Settings::in_range))]
 fn is_device_in(major: u64, minor: u64, pairs: Pairs) -> bool
     ensures { result ≡ in_range (SettingValue.Device major minor pairs) }
 {
-    if major >= DEVICE_NUMBERS {
-        return false;
-    }
-    if minor >= DEVICE_NUMBERS {
-        return false;
-    }
-    are_pairs_in(pairs)
+    major < DEVICE_NUMBERS && minor < DEVICE_NUMBERS && are_pairs_in(pairs)
 }
 
 // Whether every figure of a value is in its range.
+#[tactic(auto, unfolding(model::specs::Settings::in_range))]
 pub fn is_in_range(value: SettingValue) -> bool
     ensures { result ≡ in_range value }
 {

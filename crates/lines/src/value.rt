@@ -1,129 +1,76 @@
 // Values of settings: the form of a line. Whether the figures are in their ranges is asked of the value (range.rt), since a
 // malformed word of a line counts before a figure of it that is out of its range. A figure of any size is well formed.
-ghost use Rattle.std.specs.Prelude.{[], ◌∷◌, ◌≡◌};
+ghost use Rattle.std.specs.Prelude.{◌≡◌, ◌∷◌};
+ghost use Rattle.model.specs.Functions.{mapped};
 ghost use Rattle.model.specs.Text.{words, line_words};
 ghost use Rattle.model.specs.Settings.{value_of};
-ghost use Rattle.lines.specs.Value.{as_line_value};
+ghost use Rattle.lines.specs.Value.{clipped};
 
-use super::pair::{PairsWord, parse_pairs};
+use super::pair::parse_pairs;
 use model::{Resource, Setting, SettingValue};
-use text::cut::{part_after, part_before};
-use text::limit::{LimitWord, parse_limit};
-use text::line::{Words, line_end, next_word, sole_word, split};
-use text::number::{Number, parse_number, parse_number_line};
+use text::cut::cut;
+use text::limit::parse_limit;
+use text::line::{Words, cut_word, sole_word, text_of};
+use text::number::{parse_number, parse_number_line};
 
-const COLON: u8 = 58;
-
-// What a line gives a setting.
-#[derive(Clone, Copy)]
-pub enum LineValue {
-    Of(SettingValue),
-    // 22 not as many words as the setting takes, a word of another form, or a key given twice
-    Malformed,
-}
-
-fn parse_weight(line: &[u8]) -> LineValue
-    ensures { result ≡ as_line_value (value_of Setting.CpuWeight (line_words line.now)) }
+#[tactic(auto, unfolding(model::specs::Settings::value_of))]
+fn parse_weight(line: &[u8]) -> Option<SettingValue>
+    ensures { result ≡ mapped clipped (value_of Setting.CpuWeight (line_words line.now)) }
 {
-    let weight = parse_number_line(line);
-    let Number::Figure(n) = weight else {
-        return LineValue::Malformed;
-    };
-    LineValue::Of(SettingValue::Weight(n))
-}
-
-fn parse_quota(word: &[u8]) -> LineValue
-    ensures { result ≡ as_line_value (value_of Setting.CpuMax (word.now ∷ [])) }
-{
-    let quota = parse_limit(word);
-    let LimitWord::Of(q) = quota else {
-        return LineValue::Malformed;
-    };
-    LineValue::Of(SettingValue::Quota(q))
-}
-
-fn parse_quota_and_period(first: &[u8], second: &[u8]) -> LineValue
-    ensures { result ≡ as_line_value (value_of Setting.CpuMax (first.now ∷ second.now ∷ [])) }
-{
-    let quota = parse_limit(first);
-    let LimitWord::Of(q) = quota else {
-        return LineValue::Malformed;
-    };
-    let period = parse_number(second);
-    let Number::Figure(p) = period else {
-        return LineValue::Malformed;
-    };
-    LineValue::Of(SettingValue::Bandwidth(q, p))
+    parse_number_line(line).map(SettingValue::Weight)
 }
 
 // cpu.max: one word or two.
-fn parse_bandwidth(line: &[u8]) -> LineValue
-    ensures { result ≡ as_line_value (value_of Setting.CpuMax (line_words line.now)) }
+#[tactic(auto, unfolding(model::specs::Settings::value_of))]
+fn parse_bandwidth(line: &[u8]) -> Option<SettingValue>
+    ensures { result ≡ mapped clipped (value_of Setting.CpuMax (line_words line.now)) }
 {
-    let words = split(line);
-    match words {
-        Words::Empty => LineValue::Malformed,
-        Words::One(word) => {
-            let s = word.start;
-            let e = word.end;
-            parse_quota(&line[s..e])
-        }
-        Words::Two(first, second) => {
-            let a = first.start;
-            let b = first.end;
-            let s = second.start;
-            let e = second.end;
-            parse_quota_and_period(&line[a..b], &line[s..e])
-        }
-        Words::More => LineValue::Malformed,
+    let mut words = Words {
+        text: text_of(line),
+    };
+    let quota = parse_limit(words.next()?)?;
+    let Some(second) = words.next() else {
+        return Some(SettingValue::Quota(quota));
+    };
+    let period = parse_number(second)?;
+    if words.next().is_some() {
+        return None;
     }
+    Some(SettingValue::Bandwidth(quota, period))
 }
 
-fn parse_device_and_pairs(device: &[u8], rest: &[u8]) -> LineValue
-    ensures { result ≡ as_line_value (value_of Setting.IoMax (device.now ∷ words rest.now)) }
+#[tactic(auto, unfolding(model::specs::Settings::value_of))]
+fn parse_device_and_pairs(device: &[u8], rest: &[u8]) -> Option<SettingValue>
+    ensures { result ≡ mapped clipped (value_of Setting.IoMax (device.now ∷ words rest.now)) }
 {
-    let major = parse_number(part_before(device, COLON));
-    let Number::Figure(a) = major else {
-        return LineValue::Malformed;
-    };
-    let minor = parse_number(part_after(device, COLON));
-    let Number::Figure(b) = minor else {
-        return LineValue::Malformed;
-    };
-    let pairs = parse_pairs(rest);
-    let PairsWord::Of(p) = pairs else {
-        return LineValue::Malformed;
-    };
-    LineValue::Of(SettingValue::Device(a, b, p))
+    let (major, minor) = cut(device, b':');
+    let major = parse_number(major)?;
+    let minor = parse_number(minor)?;
+    let pairs = parse_pairs(rest)?;
+    Some(SettingValue::Device(major, minor, pairs))
 }
 
 // io.max: a device, major:minor, then any pairs.
-fn parse_device(line: &[u8]) -> LineValue
-    ensures { result ≡ as_line_value (value_of Setting.IoMax (line_words line.now)) }
+#[tactic(auto, unfolding(model::specs::Settings::value_of))]
+fn parse_device(line: &[u8]) -> Option<SettingValue>
+    ensures { result ≡ mapped clipped (value_of Setting.IoMax (line_words line.now)) }
 {
-    let n = line_end(line);
-    let word = next_word(&line[..n], 0);
-    let s = word.start;
-    let e = word.end;
-    if s == n {
-        return LineValue::Malformed;
-    }
-    parse_device_and_pairs(&line[s..e], &line[e..n])
+    let (device, rest) = cut_word(text_of(line))?;
+    parse_device_and_pairs(device, rest)
 }
 
-fn parse_maximum(resource: Resource, line: &[u8]) -> LineValue
-    ensures { result ≡ as_line_value (value_of (Setting.Max resource) (line_words line.now)) }
+#[tactic(auto, unfolding(model::specs::Settings::value_of))]
+fn parse_maximum(resource: Resource, line: &[u8]) -> Option<SettingValue>
+    ensures { result ≡ mapped clipped (value_of (Setting.Max resource) (line_words line.now)) }
 {
-    let limit = parse_limit(sole_word(line));
-    let LimitWord::Of(l) = limit else {
-        return LineValue::Malformed;
-    };
-    LineValue::Of(SettingValue::Maximum(resource, l))
+    let limit = parse_limit(sole_word(line)?)?;
+    Some(SettingValue::Maximum(resource, limit))
 }
 
-// The value that a line gives a setting.
-pub fn parse_value(setting: Setting, line: &[u8]) -> LineValue
-    ensures { result ≡ as_line_value (value_of setting (line_words line.now)) }
+// The value that a line gives a setting; none where it is malformed: not as many words as the setting takes, a word of another form,
+// or a key given twice.
+pub fn parse_value(setting: Setting, line: &[u8]) -> Option<SettingValue>
+    ensures { result ≡ mapped clipped (value_of setting (line_words line.now)) }
 {
     match setting {
         Setting::CpuWeight => parse_weight(line),

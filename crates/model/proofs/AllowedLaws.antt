@@ -1,5 +1,6 @@
 -- What is allowed of settings, in a group when it is made, after a reset, and after a value: ranges, and the table of io.max.
 -- Assumes nothing.
+use Rattle.std.specs.Prelude.{Option, Some, None}
 use Prim.Native.Nat.{ℕ, ◌<◌}
 use native.Mathlib.Omega.{arith}
 use mathlib.Core.Bool.{Bool, true, false}
@@ -10,7 +11,7 @@ use lib.ListN.{length}
 use borrow.Author.Tests.{leb-true, le-leb, ltb-true, lt-ltb}
 use Rattle.model.specs.Functions.{All}
 use Rattle.model.specs.Sizes.{device_numbers, most_devices}
-use Rattle.model.specs.Devices.{device_of, major_of, minor_of, pair_of, or_before, all_max, DeviceLimits, Ascending, limits_at, changed, with_device, Table}
+use Rattle.model.specs.Devices.{device_of, major_of, minor_of, pair_of, or_before, all_max, DeviceLimits, Ascending, limits_at, changed, with_device, Table, Pairs}
 use Rattle.model.specs.Tree.{CpuSettings, Settings, new_settings}
 use Rattle.model.specs.Figures.{figure_in}
 use Rattle.model.specs.DeviceLines.{device_in, rate_in, pair_in, pairs_in}
@@ -22,9 +23,6 @@ use Rattle.model.specs.declared.Limit.TheVariants.{NoLimit, Figure}
 use Rattle.model.specs.declared.Controller.{Controller}
 use Rattle.model.specs.declared.Controller.TheVariants.{Io}
 use Rattle.model.specs.declared.Key.{Key}
-use Rattle.model.specs.declared.Pair.{Pair}
-use Rattle.model.specs.declared.Pair.TheVariants.{Absent, Given}
-use Rattle.model.specs.declared.Pairs.{Pairs}
 use Rattle.model.specs.declared.Setting.{Setting}
 use Rattle.model.specs.declared.Setting.TheVariants.{CpuWeight, CpuMax, IoMax, Max}
 use Rattle.model.specs.declared.SettingValue.{SettingValue}
@@ -95,9 +93,9 @@ pub limits-in-range : (x : DeviceLimits) → InRange (shown_device x) → (k : K
 unfolding in_range
 limits-in-range x h = of-keys (λ k. rate_in (x.limit k)) (and_right (device_in (major_of x.device) (minor_of x.device)) _ h)
 
-given-or-before : (o : Pair) (l : Limit) → pair_in o ≡ true → rate_in l ≡ true → rate_in (or_before l o) ≡ true
-given-or-before Absent l g h = h
-given-or-before (Given m) l g h = g
+given-or-before : (o : Option Limit) (l : Limit) → pair_in o ≡ true → rate_in l ≡ true → rate_in (or_before l o) ≡ true
+given-or-before None l g h = h
+given-or-before (Some m) l g h = g
 
 -- a device written
 module _ (a b : ℕ) (p : Pairs) (st : Settings) (e : InRange (Device a b p)) (h : Allowed st) where

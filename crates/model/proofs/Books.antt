@@ -1,16 +1,16 @@
 -- The number of a reply is that of the verdict, for every sort of call. The tree and the book of demand 3 keep the same of groups
 -- and places after every call, and `booked` is the one place where each call's entry meets its effect. The one call where this is not
 -- plain is a control line: the book goes by the last word, the tree by what leaves the set. Assumes nothing.
+use Rattle.std.specs.Prelude.{Option, Some, None, Ok, Err}
 use Prim.Native.Nat.{ℕ}
 use mathlib.Core.Bool.{Bool, true, false, ◌&&◌}
 use mathlib.Core.List.{List, [], ◌∷◌, ◌++◌}
 use mathlib.Core.Logic.{◌⊎◌, inl, inr}
-use mathlib.Core.Option.{Option, none, some}
 use mathlib.Core.Path.{◌≡◌, refl, ap, ap₂, sym, ◌∙◌, fun_ext, subst}
 use lib.Dec.{eqb}
 use borrow.Author.Tests.{ne_eqb}
 use Rattle.model.specs.Functions.{upd, pick}
-use Rattle.model.specs.Checks.{errno_number, answer_number, first, Check}
+use Rattle.model.specs.Checks.{errno_number, answer_number, first, Check, Answer}
 use Rattle.model.specs.Tree.{Tree, Core, Group, Process, Settings, new_settings, settings_of, with_limits, with_settings, no_group, at_group, at_process, cores, parents, sets, settings_at, places}
 use Rattle.model.specs.Hierarchy.{child_of, usage, facts_of}
 use Rattle.model.specs.Control.{asked, is_dropped}
@@ -19,7 +19,7 @@ use Rattle.model.specs.Rooms.{Room, room, full, room_for, is_full, shortage}
 use Rattle.model.specs.Rules.{process_group, line_process, leaving}
 use Rattle.model.specs.Calls.{Call, line_value, charge_checks, fork_checks, checks, verdict}
 use Rattle.model.specs.Effects.{new_set, controlled, written, effect, step, fresh, run}
-use Rattle.model.specs.Replies.{room_answer, charge_answer, fork_answer, room_number, read_answer, read_number, Asks, for_charge, for_fork, asked_answer, Sort, plain, asking, delivering, sort_of, sort_reply, reply, reply_by}
+use Rattle.model.specs.Replies.{room_answer, charge_answer, fork_answer, room_number, read_answer, Asks, for_charge, for_fork, asked_answer, Sort, plain, asking, delivering, sort_of, sort_reply, reply, reply_by}
 use Rattle.model.specs.Book.{Book, limit_entered, entry_of, enter_entry, limits_after, child_after, enter_value, enter, book_step, fresh_book, book_of, fed}
 use Rattle.model.specs.WellFormed.{WellFormed}
 use Rattle.model.specs.Lists.{log, book_after}
@@ -32,8 +32,6 @@ use Rattle.model.specs.declared.SettingValue.{SettingValue}
 use Rattle.model.specs.declared.SettingValue.TheVariants.{Weight, Quota, Bandwidth, Device, Maximum}
 use Rattle.model.specs.declared.Errno.{Errno}
 use Rattle.model.specs.declared.Errno.TheVariants.{Enoent, Esrch, Eagain, Enomem, Eacces, Ebusy, Eexist, Einval, Enospc, Erange}
-use Rattle.model.specs.declared.Answer.{Answer}
-use Rattle.model.specs.declared.Answer.TheVariants.{Done, Refused}
 use Rattle.model.proofs.FunctionLaws.{split, upd-map, upd-keeps}
 use Rattle.model.proofs.CheckLaws.{errno-positive, first-append, and_then}
 use Rattle.model.proofs.ControlLaws.{leave-dropped}
@@ -45,9 +43,9 @@ use Rattle.model.proofs.Changes.{WritesSetting}
 use Rattle.model.proofs.ControlPreservation.{child-live, child-parent, child-not-root, reset-child, reset-other}
 
 -- The number of a reply is that of the verdict.
-read_number_lem : (a : Answer) (text : List ℕ) → read_number (read_answer a text) ≡ answer_number a
-read_number_lem Done text = refl
-read_number_lem (Refused e) text = refl
+read-answer-number : (a : Answer) (text : List ℕ) → answer_number (read_answer a text) ≡ answer_number a
+read-answer-number (Ok tt) text = refl
+read-answer-number (Err e) text = refl
 
 room-number : (r : Resource) (cs : List Check) (x : Room)
     → room_number r (room_answer (first cs) x) ≡ answer_number (first (cs ++ (Check.bar (is_full x) (shortage r) ∷ [])))
@@ -55,9 +53,9 @@ unfolding first
 room-number r cs x = go (first cs) x ∙ ap answer_number (sym (first-append cs (Check.bar (is_full x) (shortage r) ∷ [])))
   where
     go : (a : Answer) (x : Room) → room_number r (room_answer a x) ≡ answer_number (and_then a (first (Check.bar (is_full x) (shortage r) ∷ [])))
-    go Done (room k) = refl
-    go Done (full g k) = refl
-    go (Refused e) x = refl
+    go (Ok tt) (room k) = refl
+    go (Ok tt) (full g k) = refl
+    go (Err e) x = refl
 
 asked-number : (t : Tree) {r : Resource} {n p : ℕ} {c : Call} (k : Asks r n p c)
     → room_number r (asked_answer (facts_of t) k) ≡ answer_number (verdict t c)
@@ -73,12 +71,12 @@ reply-number t c = go (sort_of c)
     go : (s : Sort c) → (sort_reply (facts_of t) s).number ≡ answer_number (verdict t c)
     go plain = refl
     go (asking k) = asked-number t k
-    go (delivering text buffer) = read_number_lem (verdict t c) _
+    go (delivering text buffer) = read-answer-number (verdict t c) _
 
-pub number-accepted : (t : Tree) (c : Call) → verdict t c ≡ Done → eqb (reply t c).number 0 ≡ true
+pub number-accepted : (t : Tree) (c : Call) → verdict t c ≡ Ok tt → eqb (reply t c).number 0 ≡ true
 number-accepted t c e = rw (reply-number t c, e)
 
-pub number-refused : (t : Tree) (c : Call) (x : Errno) → verdict t c ≡ Refused x → eqb (reply t c).number 0 ≡ false
+pub number-refused : (t : Tree) (c : Call) (x : Errno) → verdict t c ≡ Err x → eqb (reply t c).number 0 ≡ false
 number-refused t c x e = ne_eqb _ 0 (λ d. errno-positive x (sym (reply-number t c ∙ ap answer_number e) ∙ d))
 
 -- What the two keep is the same.
@@ -149,8 +147,8 @@ module _ (t : Tree) (w : WellFormed t) (g : ℕ) (line : List ℕ) where
 
 -- A setting: only the two limits are kept in the book.
 abbrev entered : Option (Resource × Limit) → (Resource → Limit) → Resource → Limit
-entered none f = f
-entered (some e) f = limit_entered e.0 e.1 f
+entered None f = f
+entered (Some e) f = limit_entered e.0 e.1 f
 
 limits-after-assign : (v : SettingValue) (st : Settings) → (assign v st).limit ≡ entered (entry_of v) st.limit
 unfolding assign
@@ -163,13 +161,13 @@ limits-after-assign (Maximum r l) st = refl
 module _ (t : Tree) (mark : ℕ → ℕ) (g : ℕ) where
   same-after-entry : (st : Settings) (o : Option (Resource × Limit)) → st.limit ≡ entered o (cores t g).limit
       → Same (at_group t g (with_settings st (t.group g))) (enter_entry (book_with t mark) g o)
-  same-after-entry st none e =
+  same-after-entry st None e =
       record {
         machine = refl;
         groups = fun_ext (upd-keeps (λ x. x.core) t.group g _ (ap (λ l. with_limits l (cores t g)) e));
         places = refl;
       }
-  same-after-entry st (some x) e =
+  same-after-entry st (Some x) e =
       record {
         machine = refl;
         groups = upd-map (λ x. x.core) t.group g _ ∙ ap (λ l. upd (cores t) g (with_limits l (cores t g))) e;
@@ -177,8 +175,8 @@ module _ (t : Tree) (mark : ℕ → ℕ) (g : ℕ) where
       }
 
   same-after-value : (v : Option SettingValue) → Same (at_group t g (written v (t.group g))) (enter_value (book_with t mark) g v)
-  same-after-value none = record { machine = refl; groups = fun_ext (upd-keeps (λ x. x.core) t.group g _ refl); places = refl }
-  same-after-value (some v) = same-after-entry (assign v (settings_at t g)) (entry_of v) (limits-after-assign v (settings_at t g))
+  same-after-value None = record { machine = refl; groups = fun_ext (upd-keeps (λ x. x.core) t.group g _ refl); places = refl }
+  same-after-value (Some v) = same-after-entry (assign v (settings_at t g)) (entry_of v) (limits-after-assign v (settings_at t g))
 
 -- An accepted call: both keep the same afterwards, whatever the marks are, and the marks stay unless a setting is written.
 pub record Booked (t : Tree) (c : Call) : Type 0 where
@@ -241,11 +239,11 @@ book-refused b c Einval = refl
 book-refused b c Enospc = refl
 book-refused b c Erange = refl
 
-pub book-step-accepted : (t : Tree) (b : Book) (c : Call) → verdict t c ≡ Done → book_step b c (reply t c).number ≡ enter b c
+pub book-step-accepted : (t : Tree) (b : Book) (c : Call) → verdict t c ≡ Ok tt → book_step b c (reply t c).number ≡ enter b c
 unfolding book_step
 book-step-accepted t b c e = ap (book_step b c) (reply-number t c ∙ ap answer_number e)
 
-pub book-step-refused : (t : Tree) (b : Book) (c : Call) (x : Errno) → verdict t c ≡ Refused x → book_step b c (reply t c).number ≡ b
+pub book-step-refused : (t : Tree) (b : Book) (c : Call) (x : Errno) → verdict t c ≡ Err x → book_step b c (reply t c).number ≡ b
 book-step-refused t b c x e = ap (book_step b c) (reply-number t c ∙ ap answer_number e) ∙ book-refused b c x
 
 pub same-fresh : (m : ℕ) → Same (fresh m) (fresh_book m)

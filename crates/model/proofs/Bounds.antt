@@ -1,11 +1,11 @@
 -- Limits hold: an accepted charge or fork leaves no group on the way up over its limit, and a group with a page limit has at
 -- most the larger of the limit and its mark. Assumes nothing.
+use Rattle.std.specs.Prelude.{Option, Some, None}
 use Prim.Native.Nat.{ℕ, suc, ◌+◌, ◌≤◌, max}
 use native.Mathlib.Omega.{arith}
 use mathlib.Core.Bool.{true, false}
 use mathlib.Core.List.{List}
 use mathlib.Core.Logic.{◌⊎◌, inl, inr, ⊎_elim}
-use mathlib.Core.Option.{Option, none, some}
 use mathlib.Core.Path.{◌≡◌, refl, ap, sym, ◌∙◌, fun_ext, subst, subst₂}
 use borrow.Author.Tests.{leb-false}
 use Rattle.model.specs.Functions.{upd}
@@ -202,12 +202,12 @@ module _ (t : Tree) (mark : ℕ → ℕ) (w : WellFormed t) (q : Marked (cores t
 
   marked-entry : (g : ℕ) (o : Option (Resource × Limit))
       → Marked (enter_entry (book_with t mark) g o).group (enter_entry (book_with t mark) g o).mark
-  marked-entry g none = q
-  marked-entry g (some e) = marked-limit g e.0 e.1
+  marked-entry g None = q
+  marked-entry g (Some e) = marked-limit g e.0 e.1
 
   marked-value : (g : ℕ) (v : Option SettingValue) → Marked (enter_value (book_with t mark) g v).group (enter_value (book_with t mark) g v).mark
-  marked-value g none = q
-  marked-value g (some v) = marked-entry g (entry_of v)
+  marked-value g None = q
+  marked-value g (Some v) = marked-entry g (entry_of v)
 
   marked-setting : (c : Call) → WritesSetting c → Marked (enter (book_with t mark) c).group (enter (book_with t mark) c).mark
   unfolding enter

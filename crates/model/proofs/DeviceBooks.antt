@@ -1,14 +1,14 @@
 -- The tree's tables of io.max have the limits of the account of specs/DeviceBook.antt after every list of calls. `rates-entered` is the
 -- one place where each call's step in the account meets its effect. As in the book, the one call where this is not plain is a control
 -- line: the account goes by the last word, the tree by what leaves the set. Assumes nothing.
+use Rattle.std.specs.Prelude.{Option, Some, None}
 use Prim.Native.Nat.{ℕ}
 use mathlib.Core.Bool.{Bool, true, false}
 use mathlib.Core.List.{List, [], ◌∷◌}
-use mathlib.Core.Option.{Option, none, some}
 use mathlib.Core.Path.{◌≡◌, refl, ap, sym, ◌∙◌, fun_ext}
 use Rattle.model.specs.Functions.{upd, pick}
 use Rattle.model.specs.Checks.{Pass}
-use Rattle.model.specs.Devices.{device_of, pair_of, DeviceLimits, limits_at, or_before, Table}
+use Rattle.model.specs.Devices.{device_of, pair_of, DeviceLimits, limits_at, or_before, Table, Pairs}
 use Rattle.model.specs.Tree.{Tree, Core, Group, no_group, new_group, Settings, settings_of, at_group, cores, parents}
 use Rattle.model.specs.Hierarchy.{child_of, facts_of}
 use Rattle.model.specs.Control.{asked, is_dropped}
@@ -23,9 +23,6 @@ use Rattle.model.specs.Lists.{log}
 use Rattle.model.specs.DeviceRules.{Written}
 use Rattle.model.specs.DeviceBook.{Rates, no_rates, no_account, rates_of, account_of, rate_after, rates_after, rates_written, child_rates, enter_rates, account_step, account_fed, account_after}
 use Rattle.model.specs.declared.Limit.{Limit}
-use Rattle.model.specs.declared.Pair.{Pair}
-use Rattle.model.specs.declared.Pair.TheVariants.{Absent, Given}
-use Rattle.model.specs.declared.Pairs.{Pairs}
 use Rattle.model.specs.declared.Controller.TheVariants.{Io}
 use Rattle.model.specs.declared.SettingValue.{SettingValue}
 use Rattle.model.specs.declared.SettingValue.TheVariants.{Weight, Quota, Bandwidth, Device, Maximum}
@@ -41,9 +38,9 @@ abbrev rates_in : List DeviceLimits → Rates
 rates_in xs d k = limits_at d xs k
 
 -- A setting written.
-same-rate : (l : Limit) (q : Pair) → or_before l q ≡ rate_after l q
-same-rate l Absent = refl
-same-rate l (Given m) = refl
+same-rate : (l : Limit) (q : Option Limit) → or_before l q ≡ rate_after l q
+same-rate l None = refl
+same-rate l (Some m) = refl
 
 rates-of-line : (st : Settings) (a b : ℕ) (p : Pairs) → Table st.io
     → rates_in (assign (Device a b p) st).io ≡ rates_after (rates_in st.io) (Device a b p)
@@ -64,8 +61,8 @@ rates-of-value st (Device a b p) t = rates-of-line st a b p t
 rates-of-value st (Maximum r l) t = refl
 
 rates-written : (v : Group) (o : Option SettingValue) → Table v.io → rates_of (written o v) ≡ rates_written (rates_of v) o
-rates-written v none t = refl
-rates-written v (some x) t = rates-of-value (settings_of v) x t
+rates-written v None t = refl
+rates-written v (Some x) t = rates-of-value (settings_of v) x t
 
 -- A control line.
 rates-picked : (b : Bool) (xs : List DeviceLimits) → rates_in (pick b [] xs) ≡ pick b no_rates (rates_in xs)

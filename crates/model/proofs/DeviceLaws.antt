@@ -1,5 +1,6 @@
 -- Laws of the table of io.max: keys and pairs; what holds of a table after a device is written; ascending; a device written as it stands.
 -- Assumes nothing.
+use Rattle.std.specs.Prelude.{Option, Some, None}
 use Prim.Native.Nat.{ℕ, suc, ◌≤◌}
 use native.Mathlib.Omega.{arith}
 use mathlib.Core.Bool.{Bool, true, false}
@@ -13,8 +14,6 @@ use Rattle.model.specs.declared.Limit.{Limit}
 use Rattle.model.specs.declared.Limit.TheVariants.{NoLimit}
 use Rattle.model.specs.declared.Key.{Key}
 use Rattle.model.specs.declared.Key.TheVariants.{Rbps, Wbps, Riops, Wiops}
-use Rattle.model.specs.declared.Pair.{Pair}
-use Rattle.model.specs.declared.Pair.TheVariants.{Absent, Given}
 use Rattle.model.proofs.FunctionLaws.{split, and_left, and_right, all_both}
 
 -- Keys.
@@ -28,17 +27,17 @@ pub every-key : (f : Key → Bool) → ((k : Key) → f k ≡ true) → every_ke
 every-key f h = rw (h Rbps, h Wbps, h Riops) (h Wiops)
 
 -- What a key is given, and what a line leaves that gives every key a limit.
-pub pair_of-pairs_of : (f : Key → Pair) (k : Key) → pair_of (pairs_of f) k ≡ f k
+pub pair_of-pairs_of : (f : Key → Option Limit) (k : Key) → pair_of (pairs_of f) k ≡ f k
 pair_of-pairs_of f Rbps = refl
 pair_of-pairs_of f Wbps = refl
 pair_of-pairs_of f Riops = refl
 pair_of-pairs_of f Wiops = refl
 
-pub changed-all : (l old : Key → Limit) → changed (pairs_of (λ k. Given (l k))) old ≡ l
-changed-all l old = fun_ext (λ k. ap (or_before (old k)) (pair_of-pairs_of (λ j. Given (l j)) k))
+pub changed-all : (l old : Key → Limit) → changed (pairs_of (λ k. Some (l k))) old ≡ l
+changed-all l old = fun_ext (λ k. ap (or_before (old k)) (pair_of-pairs_of (λ j. Some (l j)) k))
 
-pub changed-none : (old : Key → Limit) → changed (pairs_of (λ k. Absent)) old ≡ old
-changed-none old = fun_ext (λ k. ap (or_before (old k)) (pair_of-pairs_of (λ j. Absent) k))
+pub changed-none : (old : Key → Limit) → changed (pairs_of (λ k. None)) old ≡ old
+changed-none old = fun_ext (λ k. ap (or_before (old k)) (pair_of-pairs_of (λ j. None) k))
 
 -- What holds of every device, and of the one written, where it is not all "max".
 module _ (P : DeviceLimits → Type 0) (d : ℕ) (l : Key → Limit) (p : all_max l ≡ false → P (record { device = d; limit = l })) where

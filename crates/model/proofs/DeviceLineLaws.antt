@@ -1,11 +1,11 @@
 -- Laws of a line of io.max: a word cut in two; a device's word and a pair read back; the line's words, lengths and bytes.
 -- Assumes nothing.
+use Rattle.std.specs.Prelude.{Option, Some, None}
 use Prim.Native.Nat.{ℕ, ◌≤◌, ◌<◌}
 use native.Mathlib.Omega.{arith}
 use mathlib.Core.Bool.{true, false}
 use mathlib.Core.List.{List, [], ◌∷◌, ◌++◌}
 use mathlib.Core.Logic.{◌≢◌}
-use mathlib.Core.Option.{some}
 use mathlib.Core.Path.{◌≡◌, refl, ap, ◌∙◌}
 use lib.Dec.{eqb}
 use lib.ListN.{length, length-append}
@@ -14,15 +14,12 @@ use Rattle.model.specs.Functions.{All}
 use Rattle.model.specs.Sizes.{device_numbers, largest_rate}
 use Rattle.model.specs.Text.{newline, space, same_bytes, words, is_digit, number_word, decimal, spaced}
 use Rattle.model.specs.Names.{named}
-use Rattle.model.specs.Devices.{keys, pair_of, pairs_of}
+use Rattle.model.specs.Devices.{keys, pair_of, pairs_of, Pairs}
 use Rattle.model.specs.Figures.{limit_word, limit_text}
 use Rattle.model.specs.DeviceLines.{colon, equals_sign, key_name, key_named, before, after, no_pairs, is_given, with_pair, pair_word, pairs_from, device_text, rate_in, pair_text, pair_texts, line_text}
 use Rattle.model.specs.declared.Limit.{Limit}
 use Rattle.model.specs.declared.Key.{Key}
 use Rattle.model.specs.declared.Key.TheVariants.{Rbps, Wbps, Riops, Wiops}
-use Rattle.model.specs.declared.Pair.{Pair}
-use Rattle.model.specs.declared.Pair.TheVariants.{Absent, Given}
-use Rattle.model.specs.declared.Pairs.{Pairs}
 use Rattle.model.proofs.FunctionLaws.{split, all_append}
 use Rattle.model.proofs.TextLaws.{IsWord, Unbroken, words-spaced, unbroken-spaced}
 use Rattle.model.proofs.DecimalLaws.{decimal-without, length-decimal, number_word-decimal}
@@ -50,7 +47,7 @@ module _ (b : ℕ) where
       (λ e. rw e (ap (λ (l : List ℕ). x ∷ l) (cut_parts xs (rw e at h))))
 
 -- Keys.
-pub key_named-key_name : (k : Key) → key_named (key_name k) ≡ some k
+pub key_named-key_name : (k : Key) → key_named (key_name k) ≡ Some k
 unfolding named same_bytes
 key_named-key_name Rbps = refl
 key_named-key_name Wbps = refl
@@ -67,15 +64,15 @@ key_name-without c Wiops h = omega arith
 
 -- Reading back.
 module _ (a b : ℕ) where
-  pub major-back : number_word (before colon (device_text a b)) ≡ some a
+  pub major-back : number_word (before colon (device_text a b)) ≡ Some a
   major-back = rw (before-cut colon (decimal a) (decimal b) (decimal-without colon a refl)) (number_word-decimal a)
 
-  pub minor-back : number_word (after colon (device_text a b)) ≡ some b
+  pub minor-back : number_word (after colon (device_text a b)) ≡ Some b
   minor-back = rw (after-cut colon (decimal a) (decimal b) (decimal-without colon a refl)) (number_word-decimal b)
 
 -- a pair of a key that was not given
-pub pair_word-pair : (p : Pairs) (k : Key) (l : Limit) (v : List ℕ) → limit_word v ≡ some l → is_given (pair_of p k) ≡ false
-    → pair_word p (key_name k ++ (equals_sign ∷ v)) ≡ some (with_pair k l p)
+pub pair_word-pair : (p : Pairs) (k : Key) (l : Limit) (v : List ℕ) → limit_word v ≡ Some l → is_given (pair_of p k) ≡ false
+    → pair_word p (key_name k ++ (equals_sign ∷ v)) ≡ Some (with_pair k l p)
 pair_word-pair p k l v e h =
     let free : All (λ b. b ≢ equals_sign) (key_name k) = key_name-without equals_sign k (omega arith) in
     rw (before-cut equals_sign (key_name k) v free, after-cut equals_sign (key_name k) v free, key_named-key_name, e, h)
@@ -88,7 +85,7 @@ pairs_from-pair p k l ws h = rw (pair_word-pair p k l (limit_text l) (limit_word
 -- all four pairs
 module _ (l : Key → Limit) where
   abbrev pub given-all : Pairs
-  given-all = pairs_of (λ k. Given (l k))
+  given-all = pairs_of (λ k. Some (l k))
 
   abbrev one : Pairs
   one = with_pair Rbps (l Rbps) no_pairs
@@ -99,11 +96,11 @@ module _ (l : Key → Limit) where
   abbrev three : Pairs
   three = with_pair Riops (l Riops) two
 
-  no-more-pairs : pairs_from (with_pair Wiops (l Wiops) three) [] ≡ some given-all
+  no-more-pairs : pairs_from (with_pair Wiops (l Wiops) three) [] ≡ Some given-all
   unfolding pairs_from
   no-more-pairs = refl
 
-  pub pairs-back : pairs_from no_pairs (pair_texts given-all keys) ≡ some given-all
+  pub pairs-back : pairs_from no_pairs (pair_texts given-all keys) ≡ Some given-all
   unfolding pair_texts
   pairs-back =
       let pair : Key → List ℕ = (λ k. pair_text k (l k)) in
@@ -143,9 +140,9 @@ unfolding All pair_texts
 all-pair_texts P h p [] = tt
 all-pair_texts P h p (k ∷ ks) = go (pair_of p k) (all-pair_texts P h p ks)
   where
-    go : (o : Pair) → All P (pair_texts p ks) → All P (elim o [ Absent ↦ pair_texts p ks | Given l ↦ pair_text k l ∷ pair_texts p ks ])
-    go Absent r = r
-    go (Given l) r = (h k l, r)
+    go : (o : Option Limit) → All P (pair_texts p ks) → All P (elim o [ None ↦ pair_texts p ks | Some l ↦ pair_text k l ∷ pair_texts p ks ])
+    go None r = r
+    go (Some l) r = (h k l, r)
 
 -- The line.
 module _ (a b : ℕ) (p : Pairs) where

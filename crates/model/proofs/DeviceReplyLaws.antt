@@ -1,18 +1,18 @@
 -- What specs/DeviceReplies.antt says holds. 28: no other check of a setting has it, and no other setting's value wants room. The text:
 -- a table that ascends from d on gives the lines of the devices from d on, whatever else the limits before d are. Assumes nothing.
+use Rattle.std.specs.Prelude.{Option, Some, None, Ok, Err}
 use Prim.Native.Nat.{ℕ, zero, suc, ◌+◌, ◌*◌, ◌≤◌, ◌<◌}
 use native.Mathlib.Omega.{arith}
 use mathlib.Core.Bool.{true, false}
 use mathlib.Core.List.{List, [], ◌∷◌, ◌++◌, map, append_assoc}
 use mathlib.Core.Logic.{◌≢◌}
-use mathlib.Core.Option.{Option, none, some}
 use mathlib.Core.Path.{◌≡◌, refl, ap, ap₂, sym, ◌∙◌, fun_ext}
 use lib.Dec.{ltb}
 use lib.ListN.{length}
 use borrow.Author.Tests.{le-leb, ltb-true}
 use Rattle.model.specs.Functions.{known, passes, All}
 use Rattle.model.specs.Sizes.{device_numbers, most_devices}
-use Rattle.model.specs.Checks.{errno_number, answer_number, Check, first, Pass}
+use Rattle.model.specs.Checks.{errno_number, answer_number, Check, first, Pass, Answer}
 use Rattle.model.specs.Devices.{major_of, minor_of, all_max, DeviceLimits, limits_at, Ascending, Table}
 use Rattle.model.specs.Tree.{Tree, Settings, lives, settings_at}
 use Rattle.model.specs.Hierarchy.{on, facts_of}
@@ -36,8 +36,6 @@ use Rattle.model.specs.declared.Setting.TheVariants.{IoMax}
 use Rattle.model.specs.declared.SettingValue.{SettingValue}
 use Rattle.model.specs.declared.SettingValue.TheVariants.{Weight, Quota, Bandwidth, Device, Maximum}
 use Rattle.model.specs.declared.File.TheVariants.{Value}
-use Rattle.model.specs.declared.Answer.{Answer}
-use Rattle.model.specs.declared.Answer.TheVariants.{Done, Refused}
 use Rattle.model.proofs.FunctionLaws.{split, whether, clash, and_left, all_map, all-of-images}
 use Rattle.model.proofs.CheckLaws.{first-pass, and_then, first-append, Errnos, first-errno}
 use Rattle.model.proofs.NameLaws.{named-name}
@@ -49,9 +47,9 @@ use Rattle.model.proofs.Books.{reply-number}
 
 -- When a write answers 28.
 -- the setting whose value was read
-named-by-value : (o : Option Setting) (line : List ℕ) (v : SettingValue) → setting_value o line ≡ some v → o ≡ some (setting_of v)
-named-by-value none line v e = let z : ◌≡◌ {A = ℕ} 0 1 = cc in absurd (omega arith)
-named-by-value (some s) line v e = ap some (sym (setting_of-value_of s _ v e))
+named-by-value : (o : Option Setting) (line : List ℕ) (v : SettingValue) → setting_value o line ≡ Some v → o ≡ Some (setting_of v)
+named-by-value None line v e = let z : ◌≡◌ {A = ℕ} 0 1 = cc in absurd (omega arith)
+named-by-value (Some s) line v e = ap Some (sym (setting_of-value_of s _ v e))
 
 module _ (t : Tree) (well : WellFormed t) (user g : ℕ) (file line : List ℕ) where
   abbrev others : List Check
@@ -64,11 +62,11 @@ module _ (t : Tree) (well : WellFormed t) (user g : ℕ) (file line : List ℕ) 
   unfolding verdict checks
   number-of-write = reply-number t (write_setting user g file line) ∙ ap answer_number (first-append others last)
 
-  table-of-write : first others ≡ Done → Table (settings_at t g).io
+  table-of-write : first others ≡ Ok tt → Table (settings_at t g).io
   unfolding setting_checks Pass
   table-of-write d = let k : Pass others = first-pass others d in (well.ranges.within g (search)).table
 
-  module _ (d : first others ≡ Done) where
+  module _ (d : first others ≡ Ok tt) where
     abbrev st : Settings
     st = settings_at t g
 
@@ -77,7 +75,7 @@ module _ (t : Tree) (well : WellFormed t) (user g : ℕ) (file line : List ℕ) 
     unfolding has_room
     roomy v e r = clash (has_room st v) (rw e (le-leb (length st.io) most_devices (table-of-write d).few)) r
 
-    fifth-of-value : (v : SettingValue) → line_value file line ≡ some v → has_room st v ≡ false → FifthWrite t user g file line
+    fifth-of-value : (v : SettingValue) → line_value file line ≡ Some v → has_room st v ≡ false → FifthWrite t user g file line
     unfolding assign
     fifth-of-value (Weight n) e r = roomy (Weight n) refl r
     fifth-of-value (Quota q) e r = roomy (Quota q) refl r
@@ -96,13 +94,13 @@ module _ (t : Tree) (well : WellFormed t) (user g : ℕ) (file line : List ℕ) 
 
     fifth-of-refusal : (o : Option SettingValue) → line_value file line ≡ o → passes o (has_room st) ≡ false → FifthWrite t user g file line
     unfolding setting_checks Pass
-    fifth-of-refusal none e r =
+    fifth-of-refusal None e r =
         let k : Pass others = first-pass others d in
         let form : known (line_value file line) ≡ true = (search) in
         clash false (ap known (sym e) ∙ form) refl
-    fifth-of-refusal (some v) e r = fifth-of-value v e r
+    fifth-of-refusal (Some v) e r = fifth-of-value v e r
 
-  last_done : passes (line_value file line) (has_room (settings_at t g)) ≡ true → first last ≡ Done
+  last_done : passes (line_value file line) (has_room (settings_at t g)) ≡ true → first last ≡ Ok tt
   unfolding first
   last_done y = rw y
 
@@ -114,11 +112,11 @@ module _ (t : Tree) (well : WellFormed t) (user g : ℕ) (file line : List ℕ) 
       answered a e = ap (λ x. answer_number (and_then x (first last))) (sym e) ∙ sym number-of-write ∙ n
 
       go : (a : Answer) → first others ≡ a → FifthWrite t user g file line
-      go Done e =
+      go (Ok tt) e =
           split (passes (line_value file line) (has_room (settings_at t g)))
-          (λ y. absurd (omega (arith, answered Done e, ap answer_number (last_done y))))
+          (λ y. absurd (omega (arith, answered (Ok tt) e, ap answer_number (last_done y))))
           (λ y. fifth-of-refusal e (line_value file line) refl y)
-      go (Refused x) e = absurd (first-errno (λ y. errno_number y ≢ 28) others (omega arith) x e (answered (Refused x) e))
+      go (Err x) e = absurd (first-errno (λ y. errno_number y ≢ 28) others (omega arith) x e (answered (Err x) e))
 
   always-fifth : FifthWrite t user g file line → (reply t (write_setting user g file line)).number ≡ 28
   unfolding first
@@ -198,10 +196,10 @@ module _ (t : Tree) (well : WellFormed t) (g : ℕ) (live : lives t g ≡ true) 
       (all_map _ _ xs device-below (all-of-images (λ v. in_range v ≡ true) shown_device xs (k.values IoMax)))
 
   read-of-devices : (buffer : List ℕ) → on t Io g ≡ true → fits (io_max_text (account_of t g)) buffer ≡ true
-      → reply t (read g (bytes "io.max") buffer) ≡ text_reply Done (io_max_text (account_of t g)) buffer
+      → reply t (read g (bytes "io.max") buffer) ≡ text_reply (Ok tt) (io_max_text (account_of t g)) buffer
   read-of-devices buffer o f =
       file-read t well (Value IoMax) g buffer live o (rw text-of-devices f)
-      ∙ ap (λ (x : List ℕ). text_reply Done x buffer) text-of-devices
+      ∙ ap (λ (x : List ℕ). text_reply (Ok tt) x buffer) text-of-devices
 
 pub device-reading : (t : Tree) → WellFormed t → DeviceReading t (account_of t)
 device-reading t well = record { text = text-of-devices t well; delivered = λ g buffer l. read-of-devices t well g l buffer }

@@ -11,7 +11,7 @@ use lib.ListN.{length}
 use borrow.Author.Tests.{eqb-true, eqb-false, eq-eqb, ne_eqb, ltb-true, ltb-false, leb-false, lt-leb}
 use Rattle.model.specs.Functions.{pick, All}
 use Rattle.model.specs.Sizes.{device_numbers, most_devices}
-use Rattle.model.specs.Devices.{device_of, is_max, all_max, DeviceLimits, limits_at, changed, entered, with_device, Ascending, Table}
+use Rattle.model.specs.Devices.{device_of, is_max, all_max, DeviceLimits, limits_at, changed, entered, with_device, Ascending, Table, Pairs}
 use Rattle.model.specs.Tree.{Settings, with_io}
 use Rattle.model.specs.DeviceLines.{no_pairs}
 use Rattle.model.specs.Settings.{assign, has_room}
@@ -19,7 +19,6 @@ use Rattle.model.specs.DeviceRules.{Numbered, Written, Fifth, DeviceRules}
 use Rattle.model.specs.declared.Limit.{Limit}
 use Rattle.model.specs.declared.Limit.TheVariants.{NoLimit, Figure}
 use Rattle.model.specs.declared.Key.{Key}
-use Rattle.model.specs.declared.Pairs.{Pairs}
 use Rattle.model.specs.declared.SettingValue.TheVariants.{Device}
 use Rattle.model.proofs.FunctionLaws.{split, whether, clash}
 use Rattle.model.proofs.DeviceLaws.{of-keys, every-key, changed-none, all-with-device, ascending-from, ascending-with-device}

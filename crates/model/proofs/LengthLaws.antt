@@ -1,5 +1,6 @@
 -- How long cgroup.procs and the membership line get. A listing is counted line by line: the lines of the numbers below p have
 -- `bytes_below p` bytes, if all are listed. Assumes nothing.
+use Rattle.std.specs.Prelude.{Ok}
 use Prim.Native.Nat.{ℕ, zero, suc, ◌+◌, ◌-◌, ◌*◌, ◌≤◌, ◌<◌}
 use native.Mathlib.Decide.{dec_lt}
 use native.Mathlib.Numerals.{add-one}
@@ -26,7 +27,6 @@ use Rattle.model.specs.WellFormed.{Sound, WellFormed}
 use Rattle.model.specs.Lengths.{Lengths, admissions, ListingReached}
 use Rattle.model.specs.declared.File.TheVariants.{Procs}
 use Rattle.model.specs.declared.Errno.TheVariants.{Enoent, Esrch, Einval, Enospc}
-use Rattle.model.specs.declared.Answer.TheVariants.{Done}
 use Rattle.model.proofs.FunctionLaws.{split, whether, clash, upd_same, upd_other}
 use Rattle.model.proofs.DecimalLaws.{length-decimal, length-decimal-least}
 use Rattle.model.proofs.NameLaws.{file_named-file_name}
@@ -163,7 +163,7 @@ module _ (user : ℕ) where
   admitted-here : (t : Tree) (p : ℕ) → p ≢ 0 → p < processes → process_taken t p ≡ false → places (step t (admit p user)) p ≡ at 0
   unfolding effect verdict checks first
   admitted-here t p nz low free =
-      let e : verdict t (admit p user) ≡ Done = rw (ne_eqb p 0 nz, lt-leb processes p low, free, first) in
+      let e : verdict t (admit p user) ≡ Ok tt = rw (ne_eqb p 0 nz, lt-leb processes p low, free, first) in
       ap (λ (u : Tree). places u p) (step-accepted t (admit p user) e) ∙ ap (λ (x : Process). x.place) (upd_same t.process p _)
 
   admissions-before : (n p q : ℕ) (t : Tree) → q < p → (run t (admissions user p n)).process q ≡ t.process q

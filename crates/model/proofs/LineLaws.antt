@@ -1,5 +1,6 @@
 -- The membership line of a zombie stands still from its exit to its collect, as specs/ZombieRules.antt states it: what each change
 -- leaves of the zombie, of the parents on its path and of its group; then over every list of calls. Assumes nothing.
+use Rattle.std.specs.Prelude.{Ok}
 use Prim.Native.Nat.{ℕ, zero, suc}
 use mathlib.Core.Bool.{true, false}
 use mathlib.Core.List.{List, [], ◌∷◌, ◌++◌, append-nil}
@@ -20,7 +21,6 @@ use Rattle.model.specs.Effects.{kept_if, effect, step, run}
 use Rattle.model.specs.WellFormed.{WellFormed}
 use Rattle.model.specs.Lists.{Each, Never, Ever}
 use Rattle.model.specs.ZombieRules.{Removes, Collects, LineKept, LineStands}
-use Rattle.model.specs.declared.Answer.TheVariants.{Done}
 use Rattle.model.proofs.FunctionLaws.{split, whether, clash, or-false, or_right, upd_same, upd_other, upd-keeps, member-here, member-there}
 use Rattle.model.proofs.CheckLaws.{pass-first, answer-zero}
 use Rattle.model.proofs.ChainLaws.{climb-next, inside-self, inside-same}
@@ -133,7 +133,7 @@ record Lying (p g : ℕ) (text way : List ℕ) (t : Tree) : Type 0 where
 removed-dead : (g : ℕ) (t : Tree) (c : Call) → Removes g t c → lives (step t c) g ≡ false
 unfolding effect
 removed-dead g t c r =
-    let e : verdict t c ≡ Done = answer-zero (verdict t c) (sym (reply-number t c) ∙ r.accepted) in
+    let e : verdict t c ≡ Ok tt = answer-zero (verdict t c) (sym (reply-number t c) ∙ r.accepted) in
     ap (λ (u : Tree). lives u g) (step-accepted t c e ∙ ap (effect t) r.call) ∙ ap (λ (y : Group). y.core.live) (upd_same _ g no_group)
 
 module _ (p g : ℕ) (text way : List ℕ) where

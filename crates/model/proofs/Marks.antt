@@ -1,11 +1,11 @@
 -- The limit of a group is what the last accepted write of memory.max to it gave, and its mark the usage that it had right after: no
 -- other call moves the mark, and none gives a page limit. Assumes nothing.
+use Rattle.std.specs.Prelude.{Option, Some, None, Ok, Err}
 use Prim.Native.Nat.{ℕ, suc, ◌+◌}
 use native.Mathlib.Omega.{arith}
 use mathlib.Core.Bool.{true, false}
 use mathlib.Core.List.{List, [], ◌∷◌}
 use mathlib.Core.Logic.{◌≢◌, ◌⊎◌, inl, inr, ⊎_elim}
-use mathlib.Core.Option.{Option, none, some}
 use mathlib.Core.Path.{◌≡◌, refl, ap, ap₂, sym, ◌∙◌, subst}
 use Rattle.model.specs.Functions.{upd, known}
 use Rattle.model.specs.Checks.{Pass, answer_number}
@@ -30,7 +30,6 @@ use Rattle.model.specs.declared.Setting.TheVariants.{Max}
 use Rattle.model.specs.declared.SettingValue.{SettingValue}
 use Rattle.model.specs.declared.SettingValue.TheVariants.{Weight, Quota, Bandwidth, Device, Maximum}
 use Rattle.model.specs.declared.Errno.{Errno}
-use Rattle.model.specs.declared.Answer.TheVariants.{Done, Refused}
 use Rattle.model.proofs.FunctionLaws.{whether, clash, upd_same, upd_other, upd-keeps}
 use Rattle.model.proofs.CheckLaws.{errno-positive}
 use Rattle.model.proofs.NameLaws.{named-name, setting_named-setting_name}
@@ -44,12 +43,12 @@ use Rattle.model.proofs.States.{State, state-begin, state-step}
 use Rattle.model.proofs.Rounding.{figure-given}
 
 -- The file whose line gave a value is the value's own.
-pub file-of-value : (file line : List ℕ) (v : SettingValue) → line_value file line ≡ some v → file ≡ setting_name (setting_of v)
+pub file-of-value : (file line : List ℕ) (v : SettingValue) → line_value file line ≡ Some v → file ≡ setting_name (setting_of v)
 file-of-value file line v e = go (setting_named file) refl e
   where
-    go : (o : Option Setting) → setting_named file ≡ o → setting_value o line ≡ some v → file ≡ setting_name (setting_of v)
-    go none n h = let z : ◌≡◌ {A = ℕ} 0 1 = cc in absurd (omega arith)
-    go (some s) n h = named-name setting_name file settings s n ∙ ap setting_name (sym (setting_of-value_of s (line_words line) v h))
+    go : (o : Option Setting) → setting_named file ≡ o → setting_value o line ≡ Some v → file ≡ setting_name (setting_of v)
+    go None n h = let z : ◌≡◌ {A = ℕ} 0 1 = cc in absurd (omega arith)
+    go (Some s) n h = named-name setting_name file settings s n ∙ ap setting_name (sym (setting_of-value_of s (line_words line) v h))
 
 -- A limit of g that stands afterwards stood there before.
 abbrev Kept : (ℕ → Core) → (ℕ → Core) → ℕ → Type 0
@@ -60,8 +59,8 @@ kept-left s i v e g l h = sym (upd-keeps (λ c. c.limit Pages) s i v e g) ∙ h
 
 -- the limit of the resource is entered
 abbrev Enters : Resource → Option (Resource × Limit) → Type 0
-Enters r none = ⊥
-Enters r (some e) = e.0 ≡ r
+Enters r None = ⊥
+Enters r (Some e) = e.0 ≡ r
 
 module _ (b : Book) (g : ℕ) where
   -- a limit entered at h
@@ -74,13 +73,13 @@ module _ (b : Book) (g : ℕ) where
 
   entry-left : (h : ℕ) (o : Option (Resource × Limit)) → (Enters Pages o → h ≡ g → ⊥)
       → ((enter_entry b h o).mark g ≡ b.mark g) × Kept b.group (enter_entry b h o).group g
-  entry-left h none n = (refl, λ l e. e)
-  entry-left h (some e) n = limit-left h e.0 e.1 n
+  entry-left h None n = (refl, λ l e. e)
+  entry-left h (Some e) n = limit-left h e.0 e.1 n
 
 -- Names of two settings are not the same bytes.
 setting-of-name : (x y : Setting) → setting_name x ≡ setting_name y → x ≡ y
 setting-of-name x y e =
-    let f : some x ≡ some y = sym (setting_named-setting_name x) ∙ ap setting_named e ∙ setting_named-setting_name y in
+    let f : Some x ≡ Some y = sym (setting_named-setting_name x) ∙ ap setting_named e ∙ setting_named-setting_name y in
     cc
 
 -- A call by whether it is an accepted write of memory.max to g.
@@ -97,7 +96,7 @@ module _ (t : Tree) (b : Book) (s : State t b) (g : ℕ) where
   abbrev Decided : Call → Type 0
   Decided c = (SetsMemoryMax g t c × ((after c).mark g ≡ usage (cores (step t c)) g)) ⊎ Other c
 
-  refused-other : (c : Call) (x : Errno) → verdict t c ≡ Refused x → Other c
+  refused-other : (c : Call) (x : Errno) → verdict t c ≡ Err x → Other c
   refused-other c x e =
       record {
         unset = λ w. errno-positive x (sym (reply-number t c ∙ ap answer_number e) ∙ w.accepted);
@@ -105,7 +104,7 @@ module _ (t : Tree) (b : Book) (s : State t b) (g : ℕ) where
         limit = λ l h. ap (λ y. (y.group g).limit Pages) (sym (book-step-refused t b c x e)) ∙ h;
       }
 
-  module _ (c : Call) (e : verdict t c ≡ Done) where
+  module _ (c : Call) (e : verdict t c ≡ Ok tt) where
     accepted-other : (SetsMemoryMax g t c → ⊥) → (enter b c).mark g ≡ b.mark g → Kept b.group (enter b c).group g → Other c
     accepted-other n m f =
         record {
@@ -114,12 +113,12 @@ module _ (t : Tree) (b : Book) (s : State t b) (g : ℕ) where
           limit = λ l h. f l (ap (λ y. (y.group g).limit Pages) (sym (book-step-accepted t b c e)) ∙ h);
         }
 
-  module _ (user h : ℕ) (file line : List ℕ) (e : verdict t (Call.write_setting user h file line) ≡ Done) where
+  module _ (user h : ℕ) (file line : List ℕ) (e : verdict t (Call.write_setting user h file line) ≡ Ok tt) where
     abbrev written : Call
     written = Call.write_setting user h file line
 
     -- another setting, or another group
-    other-value : (v : SettingValue) → line_value file line ≡ some v → (Enters Pages (entry_of v) → h ≡ g → ⊥)
+    other-value : (v : SettingValue) → line_value file line ≡ Some v → (Enters Pages (entry_of v) → h ≡ g → ⊥)
         → (setting_of v ≡ Max Pages → h ≡ g → ⊥) → Decided written
     unfolding enter
     other-value v p x n =
@@ -135,7 +134,7 @@ module _ (t : Tree) (b : Book) (s : State t b) (g : ℕ) where
         group_of : SetsMemoryMax g t written → h ≡ g
         group_of w = cc
 
-    this-value : (l : Limit) → line_value file line ≡ some (Maximum Pages l) → h ≡ g → Decided written
+    this-value : (l : Limit) → line_value file line ≡ Some (Maximum Pages l) → h ≡ g → Decided written
     unfolding enter effect
     this-value l p d =
         let f : file ≡ bytes "memory.max" = file-of-value file line (Maximum Pages l) p in
@@ -154,28 +153,28 @@ module _ (t : Tree) (b : Book) (s : State t b) (g : ℕ) where
         )
 
     by_value : (v : Option SettingValue) → line_value file line ≡ v → known v ≡ true → Decided written
-    by_value none p k = clash false k refl
-    by_value (some (Weight n)) p k = other-value (Weight n) p (λ x. absurd x) (λ x. let z : ◌≡◌ {A = ℕ} 0 1 = cc in absurd (omega arith))
-    by_value (some (Quota q)) p k = other-value (Quota q) p (λ x. absurd x) (λ x. let z : ◌≡◌ {A = ℕ} 0 1 = cc in absurd (omega arith))
-    by_value (some (Bandwidth q o)) p k =
+    by_value None p k = clash false k refl
+    by_value (Some (Weight n)) p k = other-value (Weight n) p (λ x. absurd x) (λ x. let z : ◌≡◌ {A = ℕ} 0 1 = cc in absurd (omega arith))
+    by_value (Some (Quota q)) p k = other-value (Quota q) p (λ x. absurd x) (λ x. let z : ◌≡◌ {A = ℕ} 0 1 = cc in absurd (omega arith))
+    by_value (Some (Bandwidth q o)) p k =
         other-value (Bandwidth q o) p (λ x. absurd x) (λ x. let z : ◌≡◌ {A = ℕ} 0 1 = cc in absurd (omega arith))
-    by_value (some (Device a b q)) p k =
+    by_value (Some (Device a b q)) p k =
         other-value (Device a b q) p (λ x. absurd x) (λ x. let z : ◌≡◌ {A = ℕ} 0 1 = cc in absurd (omega arith))
-    by_value (some (Maximum Pages l)) p k =
+    by_value (Some (Maximum Pages l)) p k =
         whether h g (λ d. this-value l p d) (λ ne. other-value (Maximum Pages l) p (λ _. ne) (λ _. ne))
-    by_value (some (Maximum Processes l)) p k =
+    by_value (Some (Maximum Processes l)) p k =
         other-value (Maximum Processes l) p
         (λ x. let z : ◌≡◌ {A = ℕ} 0 1 = cc in absurd (omega arith)) (λ x. let z : ◌≡◌ {A = ℕ} 0 1 = cc in absurd (omega arith))
 
-  setting-decided : (c : Call) → verdict t c ≡ Done → WritesSetting c → Decided c
+  setting-decided : (c : Call) → verdict t c ≡ Ok tt → WritesSetting c → Decided c
   unfolding checks setting_checks Pass
   setting-decided c e x =
-      subst (λ (y : Call). verdict t y ≡ Done → Decided y) (sym x.call)
+      subst (λ (y : Call). verdict t y ≡ Ok tt → Decided y) (sym x.call)
       (λ d. let k = passed t (Call.write_setting x.user x.group x.file x.line) d in
       by_value x.user x.group x.file x.line d (line_value x.file x.line) refl (search)) e
 
 -- A call that leaves marks as they are, whatever they are, is no write of memory.max, which makes the mark the usage.
-quiet-unset : (t : Tree) → WellFormed t → (g : ℕ) (c : Call) → verdict t c ≡ Done
+quiet-unset : (t : Tree) → WellFormed t → (g : ℕ) (c : Call) → verdict t c ≡ Ok tt
     → ((m : ℕ → ℕ) → (enter (book_with t m) c).mark ≡ m) → SetsMemoryMax g t c → ⊥
 quiet-unset t w g c e stay x =
     let m : ℕ → ℕ = (λ h. suc (usage (cores t) h + usage (cores (step t c)) h)) in
@@ -191,14 +190,14 @@ quiet-unset t w g c e stay x =
     (record { user = x.user; group = g; file = bytes "memory.max"; line = x.line; call = x.call }))
 
 module _ (t : Tree) (b : Book) (s : State t b) (g : ℕ) where
-  left_alone : (c : Call) → verdict t c ≡ Done → ((m : ℕ → ℕ) → (enter (book_with t m) c).mark ≡ m) → Limited t (effect t c) → Other t b s g c
+  left_alone : (c : Call) → verdict t c ≡ Ok tt → ((m : ℕ → ℕ) → (enter (book_with t m) c).mark ≡ m) → Limited t (effect t c) → Other t b s g c
   left_alone c e stay k =
       accepted-other t b s g c e (quiet-unset t s.formed g c e stay)
       (ap (λ x. (enter x c).mark g) (sym (book-with-same t b s.same)) ∙ ap (λ f. f g) (stay b.mark))
       (λ l h. ap (λ x. (x g).limit Pages) (sym s.same.groups)
       ∙ k.kept g l (ap (λ x. (x g).limit Pages) (same-enter t b c s.formed s.same).groups ∙ h))
 
-  accepted-decided : (c : Call) → verdict t c ≡ Done → Decided t b s g c
+  accepted-decided : (c : Call) → verdict t c ≡ Ok tt → Decided t b s g c
   accepted-decided c e =
       ⊎_elim
       (λ (stay : (m : ℕ → ℕ) → (enter (book_with t m) c).mark ≡ m). ⊎_elim
@@ -281,7 +280,7 @@ one_last P Q R A f (c ∷ cs) t x y =
 one_left : (g l k m n : ℕ) (t : Tree) (c : Call) → Leaves g l m t c → Leaves g k n t c → (l ≡ k) × (m ≡ n)
 one_left g l k m n t c p q =
     let e : p.write.line ≡ q.write.line = cc (sym p.write.call ∙ q.write.call) in
-    let f : some (Figure p.figure) ≡ some (Figure q.figure) =
+    let f : Some (Figure p.figure) ≡ Some (Figure q.figure) =
     sym p.word ∙ ap (λ x. one_word limit_word (line_words x)) e ∙ q.word in
     let h : p.figure ≡ q.figure = cc in
     (omega (arith, h, p.rounded.no_more, p.rounded.next, q.rounded.no_more, q.rounded.next), p.marked ∙ sym q.marked)

@@ -1,9 +1,9 @@
 -- Laws of the names of controllers, settings and files: each name finds what it names, by computation, and what is found has
 -- the name. Assumes nothing.
+use Rattle.std.specs.Prelude.{Some}
 use Prim.Native.Nat.{ℕ}
 use mathlib.Core.List.{List, [], ◌∷◌}
 use mathlib.Core.Logic.{◌≢◌}
-use mathlib.Core.Option.{some}
 use mathlib.Core.Path.{◌≡◌, refl, ap, ◌∙◌}
 use native.Mathlib.Omega.{arith}
 use Rattle.model.specs.Functions.{All}
@@ -19,14 +19,14 @@ use Rattle.model.specs.declared.File.TheVariants.{Procs, Controllers, SubtreeCon
 use Rattle.model.proofs.FunctionLaws.{split}
 use Rattle.model.proofs.TextLaws.{same_bytes→≡}
 
-pub controller_named-controller_name : (c : Controller) → controller_named (controller_name c) ≡ some c
+pub controller_named-controller_name : (c : Controller) → controller_named (controller_name c) ≡ Some c
 unfolding named same_bytes
 controller_named-controller_name Cpu = refl
 controller_named-controller_name Io = refl
 controller_named-controller_name Memory = refl
 controller_named-controller_name Pids = refl
 
-pub setting_named-setting_name : (s : Setting) → setting_named (setting_name s) ≡ some s
+pub setting_named-setting_name : (s : Setting) → setting_named (setting_name s) ≡ Some s
 unfolding named same_bytes
 setting_named-setting_name CpuWeight = refl
 setting_named-setting_name CpuMax = refl
@@ -43,7 +43,7 @@ of-base P h IoMax ne = absurd (ne refl)
 of-base P h (Max Pages) ne = h.1.1.0
 of-base P h (Max Processes) ne = h.1.1.1.0
 
-pub file_named-file_name : (f : File) → file_named (file_name f) ≡ some f
+pub file_named-file_name : (f : File) → file_named (file_name f) ≡ Some f
 unfolding named same_bytes
 file_named-file_name Procs = refl
 file_named-file_name Controllers = refl
@@ -57,7 +57,7 @@ file_named-file_name (Value IoMax) = refl
 file_named-file_name (Value (Max Pages)) = refl
 file_named-file_name (Value (Max Processes)) = refl
 
-pub named-name : {A : Type 0} (name : A → List ℕ) (w : List ℕ) (as' : List A) (a : A) → named name w as' ≡ some a → w ≡ name a
+pub named-name : {A : Type 0} (name : A → List ℕ) (w : List ℕ) (as' : List A) (a : A) → named name w as' ≡ Some a → w ≡ name a
 unfolding named
 named-name name w [] a e = let z : ◌≡◌ {A = ℕ} 0 1 = cc in absurd (omega arith)
 named-name name w (x ∷ xs) a e =
@@ -65,5 +65,5 @@ named-name name w (x ∷ xs) a e =
     (λ y. let d : x ≡ a = some_same (rw y at e) in same_bytes→≡ w (name x) y ∙ ap name d)
     (λ n. named-name name w xs a (rw n at e))
   where
-    some_same : some x ≡ some a → x ≡ a
+    some_same : Some x ≡ Some a → x ≡ a
     some_same h = cc

@@ -1,10 +1,10 @@
 -- Order 3's walk finds the common ancestor: the entries of a chain by their depth, those of two chains at the smaller depth, and from
 -- there the walk. Assumes nothing.
+use Rattle.std.specs.Prelude.{Some}
 use Prim.Native.Nat.{ℕ, zero, suc, ◌+◌, ◌-◌, ◌≤◌, ◌<◌}
 use native.Mathlib.Omega.{arith}
 use mathlib.Core.Bool.{true}
 use mathlib.Core.Logic.{⊎_elim, ◌≢◌}
-use mathlib.Core.Option.{some}
 use mathlib.Core.Path.{◌≡◌, refl, ap, sym, ◌∙◌}
 use lib.Dec.{ltb}
 use borrow.Author.Tests.{ltb-true, ltb-false, eq-eqb, ne_eqb}
@@ -145,14 +145,14 @@ module _ (t : Tree) (s : Sound (lives t) (parents t) (depths t)) where
         ((entry-at-depth (suc d) g lg m).level ∙ sym (entry-at-depth (suc d) h lh n).level) ne
         ∙ rw (entry-parent d g lg m, entry-parent d h lh n) refl
 
-    walk-found : (d : ℕ) → d ≤ depths t g → d ≤ depths t h → walk (entry_at t g) (entry_at t h) d ≡ some (met_at d)
+    walk-found : (d : ℕ) → d ≤ depths t g → d ≤ depths t h → walk (entry_at t g) (entry_at t h) d ≡ Some (met_at d)
     unfolding walk
     walk-found zero m n =
         let e : entry_at t g 0 ≡ entry_at t h 0 = entry-root g lg ∙ sym (entry-root h lh) in
-        rw (walk, eq-eqb (entry_at t g 0) (entry_at t h 0) e) (ap some (pair-equal 0 m e))
+        rw (walk, eq-eqb (entry_at t g 0) (entry_at t h 0) e) (ap Some (pair-equal 0 m e))
     walk-found (suc d) m n =
         whether (entry_at t g (suc d)) (entry_at t h (suc d))
-        (λ e. rw (walk, eq-eqb (entry_at t g (suc d)) (entry_at t h (suc d)) e) (ap some (pair-equal (suc d) m e)))
+        (λ e. rw (walk, eq-eqb (entry_at t g (suc d)) (entry_at t h (suc d)) e) (ap Some (pair-equal (suc d) m e)))
         (λ ne.
         let z : suc d - depths t (ancestor_at d) ≡ d - depths t (ancestor_at d) + 1 = omega (arith, ancestor-level d (omega arith)) in
         rw (walk, ne_eqb (entry_at t g (suc d)) (entry_at t h (suc d)) ne, walk-found d (omega arith) (omega arith), pair-other d m n ne, z))

@@ -1,5 +1,6 @@
 -- That all groups of a user lie inside a part is kept by every call but one kind, an accepted hand over to him of a group outside;
 -- so containment holds over every list without one. Assumes nothing.
+use Rattle.std.specs.Prelude.{Ok}
 use Prim.Native.Nat.{ℕ, suc}
 use mathlib.Core.Bool.{true, false}
 use mathlib.Core.List.{List, [], ◌∷◌}
@@ -15,7 +16,6 @@ use Rattle.model.specs.Effects.{removed, new_set, effect, step, run}
 use Rattle.model.specs.WellFormed.{WellFormed}
 use Rattle.model.specs.Lists.{Accepted, Each}
 use Rattle.model.specs.Containment.{OwnsInside, GivesOutside, OneKind, ContainedOver, NeverAcross}
-use Rattle.model.specs.declared.Answer.TheVariants.{Done}
 use Rattle.model.proofs.FunctionLaws.{split, whether, clash, upd_same, upd_other, upd-map, upd-keeps}
 use Rattle.model.proofs.CheckLaws.{answer-zero}
 use Rattle.model.proofs.ChainLaws.{inside-up, inside-after-make, inside-after-remove}
@@ -107,7 +107,7 @@ module _ (t : Tree) (w : WellFormed t) (user d : ℕ) (nz : user ≢ 0) (own : O
       (λ x e. rw (step-refused t c x e) own)
 
 -- after such a hand over the group is live, is the user's and lies outside
-given-outside : (t : Tree) (user d giver g : ℕ) → verdict t (Call.hand_over giver g user) ≡ Done → inside (parents t) d g ≡ false
+given-outside : (t : Tree) (user d giver g : ℕ) → verdict t (Call.hand_over giver g user) ≡ Ok tt → inside (parents t) d g ≡ false
     → OwnsInside (step t (Call.hand_over giver g user)) user d → ⊥
 unfolding effect checks Pass
 given-outside t user d giver g e out own =

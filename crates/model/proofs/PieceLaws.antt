@@ -1,10 +1,10 @@
 -- What is particular to a controller: its piece of the settings, after a reset and after a value for another one's setting. Then defaults,
 -- for any controller. Assumes nothing.
+use Rattle.std.specs.Prelude.{Some}
 use Prim.Native.Nat.{ℕ}
 use mathlib.Core.Bool.{Bool, true, false}
 use mathlib.Core.List.{List}
 use mathlib.Core.Logic.{◌≢◌}
-use mathlib.Core.Option.{some}
 use mathlib.Core.Path.{◌≡◌, refl, ◌∙◌}
 use Rattle.model.specs.Functions.{pick}
 use Rattle.model.specs.Devices.{DeviceLimits}
@@ -81,6 +81,6 @@ module _ (gone : Controller → Bool) (c : Controller) (st : Settings) where
 
 -- a value for a setting of another controller
 pub default-after-assign : (s : Setting) (ws : List (List ℕ)) (v : SettingValue) (c : Controller) (st : Settings)
-    → value_of s ws ≡ some v → setting_controller s ≢ c → AtDefault c st → AtDefault c (assign v st)
+    → value_of s ws ≡ Some v → setting_controller s ≢ c → AtDefault c st → AtDefault c (assign v st)
 unfolding AtDefault
 default-after-assign s ws v c st e ne h = piece-after-assign-other v st c (rw (setting_of-value_of s ws v e) ne) ∙ h

@@ -1,8 +1,8 @@
 -- What an accepted line of memory.max or pids.max leaves: what is kept and shown of a figure. Assumes nothing.
+use Rattle.std.specs.Prelude.{Option, Some, None, Ok}
 use Prim.Native.Nat.{ℕ}
 use mathlib.Core.Bool.{true}
 use mathlib.Core.List.{List, append-nil}
-use mathlib.Core.Option.{Option, none, some}
 use mathlib.Core.Path.{◌≡◌, refl, ap, sym, ◌∙◌, subst}
 use Rattle.model.specs.Functions.{known, mapped}
 use Rattle.model.specs.Checks.{Pass}
@@ -22,7 +22,6 @@ use Rattle.model.specs.declared.Limit.{Limit}
 use Rattle.model.specs.declared.Limit.TheVariants.{NoLimit, Figure}
 use Rattle.model.specs.declared.Setting.TheVariants.{Max}
 use Rattle.model.specs.declared.SettingValue.TheVariants.{Maximum}
-use Rattle.model.specs.declared.Answer.TheVariants.{Done}
 use Rattle.model.proofs.FunctionLaws.{clash, upd_same}
 use Rattle.model.proofs.CheckLaws.{answer-zero}
 use Rattle.model.proofs.NameLaws.{setting_named-setting_name}
@@ -49,7 +48,7 @@ module _ (t : Tree) (r : Resource) (user g : ℕ) (line : List ℕ)
   abbrev write : Call
   write = write_setting user g (setting_name (Max r)) line
 
-  done : verdict t write ≡ Done
+  done : verdict t write ≡ Ok tt
   done = answer-zero (verdict t write) (sym (reply-number t write) ∙ z)
 
   value_read : line_value (setting_name (Max r)) line ≡ mapped (Maximum r) (one_word limit_word (line_words line))
@@ -60,8 +59,8 @@ module _ (t : Tree) (r : Resource) (user g : ℕ) (line : List ℕ)
   unfolding checks setting_checks Pass
   well-formed = let p = passed t write done in (search)
 
-  module _ (l : Limit) (e : one_word limit_word (line_words line) ≡ some l) where
-    group-written : (step t write).group g ≡ written (some (Maximum r l)) (t.group g)
+  module _ (l : Limit) (e : one_word limit_word (line_words line) ≡ Some l) where
+    group-written : (step t write).group g ≡ written (Some (Maximum r l)) (t.group g)
     unfolding effect
     group-written =
         ap (λ (u : Tree). u.group g) (step-accepted t write done)
@@ -88,16 +87,16 @@ rounds t r user g (Figure n) line e z =
 pub figure-given : (t : Tree) (r : Resource) (user g k : ℕ) (line : List ℕ)
     → Accepted t (write_setting user g (setting_name (Max r)) line)
     → ((step t (write_setting user g (setting_name (Max r)) line)).group g).core.limit r ≡ Figure k
-    → (n : ℕ) × (one_word limit_word (line_words line) ≡ some (Figure n)) × RoundedDown r n k
+    → (n : ℕ) × (one_word limit_word (line_words line) ≡ Some (Figure n)) × RoundedDown r n k
 figure-given t r user g k line z h = go (one_word limit_word (line_words line)) refl
   where
     go : (o : Option Limit) → one_word limit_word (line_words line) ≡ o
-        → (n : ℕ) × (one_word limit_word (line_words line) ≡ some (Figure n)) × RoundedDown r n k
-    go none e =
+        → (n : ℕ) × (one_word limit_word (line_words line) ≡ Some (Figure n)) × RoundedDown r n k
+    go None e =
         clash (known (line_value (setting_name (Max r)) line)) (well-formed t r user g line z)
         (ap known (value_read t r user g line z ∙ ap (mapped (Maximum r)) e))
-    go (some NoLimit) e = no-figure NoLimit k refl (sym (limit-written t r user g line z NoLimit e) ∙ h)
-    go (some (Figure n)) e =
+    go (Some NoLimit) e = no-figure NoLimit k refl (sym (limit-written t r user g line z NoLimit e) ∙ h)
+    go (Some (Figure n)) e =
         let w : Figure (to_amount r n) ≡ Figure k = sym (limit-written t r user g line z (Figure n) e) ∙ h in
         let m : to_amount r n ≡ k = cc in
         (n, e, subst (RoundedDown r n) m (rounded-down r n))

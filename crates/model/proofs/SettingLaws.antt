@@ -1,14 +1,14 @@
 -- Laws of the settings: ranges; rounding; values shown and assigned again; which setting a value is for. What a reset and a value do
 -- to a controller's piece is in PieceLaws, to what is allowed in AllowedLaws; how values read as text is in SettingTextLaws. Assumes
 -- nothing.
+use Rattle.std.specs.Prelude.{Option, Some, None}
 use Prim.Native.Nat.{ℕ}
 use native.Mathlib.Omega.{arith}
 use mathlib.Core.Bool.{true}
 use mathlib.Core.List.{List, [], ◌∷◌}
-use mathlib.Core.Option.{Option, none, some}
 use mathlib.Core.Path.{◌≡◌, refl, ap, ◌∙◌, fun_ext, subst}
 use Rattle.model.specs.Functions.{mapped, All}
-use Rattle.model.specs.Devices.{device_of, major_of, minor_of, DeviceLimits, limits_at, with_device, Table}
+use Rattle.model.specs.Devices.{device_of, major_of, minor_of, DeviceLimits, limits_at, with_device, Table, Pairs}
 use Rattle.model.specs.Tree.{Settings, with_io, with_amounts, with_limit}
 use Rattle.model.specs.Text.{one_word, number_word}
 use Rattle.model.specs.Figures.{limit_word}
@@ -19,7 +19,6 @@ use Rattle.model.specs.declared.Resource.TheVariants.{Pages, Processes}
 use Rattle.model.specs.declared.Limit.{Limit}
 use Rattle.model.specs.declared.Limit.TheVariants.{NoLimit, Figure}
 use Rattle.model.specs.declared.Key.{Key}
-use Rattle.model.specs.declared.Pairs.{Pairs}
 use Rattle.model.specs.declared.Setting.{Setting}
 use Rattle.model.specs.declared.Setting.TheVariants.{CpuWeight, CpuMax, IoMax, Max}
 use Rattle.model.specs.declared.SettingValue.{SettingValue}
@@ -93,18 +92,18 @@ setting_of (Device a b p) = IoMax
 setting_of (Maximum r l) = Max r
 
 abbrev IsFor : Setting → Option SettingValue → Type 0
-IsFor s none = Unit {0}
-IsFor s (some v) = setting_of v ≡ s
+IsFor s None = Unit {0}
+IsFor s (Some v) = setting_of v ≡ s
 
 mapped-is-for : {A : Type 0} (s : Setting) (f : A → SettingValue) (a : Option A) → ((x : A) → setting_of (f x) ≡ s)
     → IsFor s (mapped f a)
-mapped-is-for s f none h = tt
-mapped-is-for s f (some x) h = h x
+mapped-is-for s f None h = tt
+mapped-is-for s f (Some x) h = h x
 
 bandwidth_of-is-for : (q : Option Limit) (p : Option ℕ) → IsFor CpuMax (bandwidth_of q p)
-bandwidth_of-is-for none p = tt
-bandwidth_of-is-for (some q) none = tt
-bandwidth_of-is-for (some q) (some p) = refl
+bandwidth_of-is-for None p = tt
+bandwidth_of-is-for (Some q) None = tt
+bandwidth_of-is-for (Some q) (Some p) = refl
 
 bandwidth_words-is-for : (ws : List (List ℕ)) → IsFor CpuMax (bandwidth_words ws)
 bandwidth_words-is-for [] = tt
@@ -113,10 +112,10 @@ bandwidth_words-is-for (w ∷ v ∷ []) = bandwidth_of-is-for (limit_word w) (nu
 bandwidth_words-is-for (w ∷ v ∷ u ∷ us) = tt
 
 device_value-is-for : (a b : Option ℕ) (p : Option Pairs) → IsFor IoMax (device_value a b p)
-device_value-is-for none b p = tt
-device_value-is-for (some a) none p = tt
-device_value-is-for (some a) (some b) none = tt
-device_value-is-for (some a) (some b) (some p) = refl
+device_value-is-for None b p = tt
+device_value-is-for (Some a) None p = tt
+device_value-is-for (Some a) (Some b) None = tt
+device_value-is-for (Some a) (Some b) (Some p) = refl
 
 device_words-is-for : (ws : List (List ℕ)) → IsFor IoMax (device_words ws)
 device_words-is-for [] = tt
@@ -129,5 +128,5 @@ value_of-is-for CpuMax ws = bandwidth_words-is-for ws
 value_of-is-for IoMax ws = device_words-is-for ws
 value_of-is-for (Max r) ws = mapped-is-for (Max r) (Maximum r) (one_word limit_word ws) (λ l. refl)
 
-pub setting_of-value_of : (s : Setting) (ws : List (List ℕ)) (v : SettingValue) → value_of s ws ≡ some v → setting_of v ≡ s
+pub setting_of-value_of : (s : Setting) (ws : List (List ℕ)) (v : SettingValue) → value_of s ws ≡ Some v → setting_of v ≡ s
 setting_of-value_of s ws v e = subst (IsFor s) e (value_of-is-for s ws)

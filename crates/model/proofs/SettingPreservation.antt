@@ -1,6 +1,6 @@
 -- A setting that is written changes settings and nothing else: neither who lives nor any amount. Assumes nothing.
+use Rattle.std.specs.Prelude.{Option, Some, None}
 use Prim.Native.Nat.{ℕ}
-use mathlib.Core.Option.{Option, none, some}
 use mathlib.Core.Path.{◌≡◌, refl}
 use Rattle.model.specs.Functions.{upd}
 use Rattle.model.specs.Tree.{Tree, Group, Settings, with_settings, cores, places}
@@ -14,8 +14,8 @@ use Rattle.model.proofs.AmountLaws.{amount-same}
 -- a part of a group that holds no settings
 pub part-written : {A : Type 0} (F : Group → A) → ((x : Settings) (v : Group) → F (with_settings x v) ≡ F v)
     → (o : Option SettingValue) (v : Group) → F (written o v) ≡ F v
-part-written F e none v = refl
-part-written F e (some x) v = e _ v
+part-written F e None v = refl
+part-written F e (Some x) v = e _ v
 
 module _ (t : Tree) (g : ℕ) (o : Option SettingValue) where
   abbrev pub set-in : ℕ → Group

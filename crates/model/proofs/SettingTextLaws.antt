@@ -1,11 +1,11 @@
 -- Laws of the settings' text: what a file shows of a value is read as that value, has no newline in it, and is short enough for a
 -- line. Assumes nothing.
+use Rattle.std.specs.Prelude.{Some}
 use Prim.Native.Nat.{ℕ, ◌^◌, ◌≤◌, ◌<◌}
 use native.Mathlib.Omega.{arith}
 use mathlib.Core.Bool.{true}
 use mathlib.Core.List.{◌∷◌}
 use mathlib.Core.Logic.{◌≢◌}
-use mathlib.Core.Option.{some}
 use mathlib.Core.Path.{◌≡◌, refl}
 use lib.Dec.{ltb}
 use lib.ListN.{length, length-append}
@@ -35,7 +35,7 @@ use Rattle.model.proofs.AllowedLaws.{limits-in-range}
 
 -- Reading back.
 abbrev pub ReadsBack : Setting → SettingValue → Type 0
-ReadsBack s v = value_of s (words (value_text v)) ≡ some v
+ReadsBack s v = value_of s (words (value_text v)) ≡ Some v
 
 device-reads-back : (x : DeviceLimits) → ReadsBack IoMax (shown_device x)
 unfolding value_of value_text

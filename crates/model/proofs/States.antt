@@ -1,5 +1,6 @@
 -- What holds of the tree and the book of demand 3 wherever a list of calls has come to, and that each call keeps it.
 -- Assumes nothing.
+use Rattle.std.specs.Prelude.{Ok}
 use native.Mathlib.Omega.{arith}
 use mathlib.Core.List.{List, [], ◌∷◌}
 use mathlib.Core.Path.{◌≡◌, refl, subst}
@@ -12,7 +13,6 @@ use Rattle.model.specs.Replies.{reply}
 use Rattle.model.specs.Book.{Book, enter, book_step, book_of, fed}
 use Rattle.model.specs.WellFormed.{WellFormed}
 use Rattle.model.specs.Lists.{log, book_after}
-use Rattle.model.specs.declared.Answer.TheVariants.{Done}
 use Rattle.model.proofs.Steps.{step-accepted, step-refused, by-verdict, passed, well-formed-effect}
 use Rattle.model.proofs.Books.{Same, book-with-same, same-enter, book-step-accepted, book-step-refused}
 use Rattle.model.proofs.Bounds.{Marked, marked-enter}
@@ -26,7 +26,7 @@ pub record State (t : Tree) (b : Book) : Type 0 where
 pub state-begin : (t : Tree) → WellFormed t → State t (book_of t)
 state-begin t w = record { formed = w; same = record { machine = refl; groups = refl; places = refl }; marked = λ g l v e. omega arith }
 
-state-enter : (t : Tree) (b : Book) (c : Call) → State t b → verdict t c ≡ Done → State (effect t c) (enter b c)
+state-enter : (t : Tree) (b : Book) (c : Call) → State t b → verdict t c ≡ Ok tt → State (effect t c) (enter b c)
 state-enter t b c s e =
     let k : Pass (checks (facts_of t) c) = passed t c e in
     record {

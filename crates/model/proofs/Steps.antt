@@ -1,17 +1,17 @@
 -- Every accepted call makes one of the changes of Changes.antt: `change` is the one place where each call's checks meet its
 -- effect. So it leaves a well-formed tree well formed, and every tree that calls can reach is. Assumes nothing.
+use Rattle.std.specs.Prelude.{Option, Some, None, Ok, Err}
 use Prim.Native.Nat.{ℕ, ◌+◌, ◌-◌, ◌≤◌}
 use native.Mathlib.Omega.{arith}
 use mathlib.Core.Bool.{true, false, not, ◌&&◌}
 use mathlib.Core.List.{List, [], ◌∷◌}
 use mathlib.Core.Logic.{◌≢◌, inl, inr, ⊎_elim}
-use mathlib.Core.Option.{Option, none, some}
 use mathlib.Core.Path.{◌≡◌, refl, ap, sym}
 use lib.Dec.{eqb}
 use borrow.Author.Tests.{eqb-false, eq-eqb, ne_eqb, leb-false, ltb-false, not-false}
 use Rattle.model.specs.Functions.{passes, known}
 use Rattle.model.specs.Sizes.{groups, processes}
-use Rattle.model.specs.Checks.{Pass}
+use Rattle.model.specs.Checks.{Pass, Answer}
 use Rattle.model.specs.Tree.{Tree, Process, at, is_live, group_of, no_process, with_own, with_core, with_owner, at_group, at_process, cores, lives, parents, sets, settings_at, places}
 use Rattle.model.specs.Hierarchy.{on, on_in, child_of, headcount, usage, facts_of}
 use Rattle.model.specs.Control.{asked, is_wanted, any_controller}
@@ -27,8 +27,6 @@ use Rattle.model.specs.declared.Controller.{Controller}
 use Rattle.model.specs.declared.Setting.{Setting}
 use Rattle.model.specs.declared.SettingValue.{SettingValue}
 use Rattle.model.specs.declared.Errno.{Errno}
-use Rattle.model.specs.declared.Answer.{Answer}
-use Rattle.model.specs.declared.Answer.TheVariants.{Done, Refused}
 use Rattle.model.proofs.FunctionLaws.{split, clash, and-false, any_none, upd-map}
 use Rattle.model.proofs.CheckLaws.{first-pass}
 use Rattle.model.proofs.AmountLaws.{place-live, place-free}
@@ -45,23 +43,23 @@ use Rattle.model.proofs.SettingPreservation.{part-written}
 use Rattle.model.proofs.Changes.{still, came, went, place-stands, place-blank, usage-altered, made-dead, made-blank, Placing, Change, nothing, placed, altered, made, ended, collected, removal, control}
 
 -- A step by its verdict.
-pub step-accepted : (t : Tree) (c : Call) → verdict t c ≡ Done → step t c ≡ effect t c
+pub step-accepted : (t : Tree) (c : Call) → verdict t c ≡ Ok tt → step t c ≡ effect t c
 unfolding step
 step-accepted t c e = rw (e, step)
 
-pub step-refused : (t : Tree) (c : Call) (x : Errno) → verdict t c ≡ Refused x → step t c ≡ t
+pub step-refused : (t : Tree) (c : Call) (x : Errno) → verdict t c ≡ Err x → step t c ≡ t
 unfolding step
 step-refused t c x e = rw (e, step)
 
 -- by cases on the verdict
-pub by-verdict : {A : Type 0} (t : Tree) (c : Call) → (verdict t c ≡ Done → A) → ((e : Errno) → verdict t c ≡ Refused e → A) → A
+pub by-verdict : {A : Type 0} (t : Tree) (c : Call) → (verdict t c ≡ Ok tt → A) → ((e : Errno) → verdict t c ≡ Err e → A) → A
 by-verdict {A} t c f g = go (verdict t c) refl
   where
     go : (a : Answer) → verdict t c ≡ a → A
-    go Done e = f e
-    go (Refused x) e = g x e
+    go (Ok tt) e = f e
+    go (Err x) e = g x e
 
-pub passed : (t : Tree) (c : Call) → verdict t c ≡ Done → Pass (checks (facts_of t) c)
+pub passed : (t : Tree) (c : Call) → verdict t c ≡ Ok tt → Pass (checks (facts_of t) c)
 unfolding verdict
 passed t c e = first-pass (checks (facts_of t) c) e
 
@@ -115,8 +113,8 @@ module _ (t : Tree) (w : WellFormed t) where
   kept-value : (g : ℕ) (s : Setting) (ws : List (List ℕ)) (v : Option SettingValue) → value_of s ws ≡ v → lives t g ≡ true
       → on t (setting_controller s) g ≡ true → known v ≡ true → passes v in_range ≡ true → passes v (has_room (settings_at t g)) ≡ true
       → Patch t g (written v (t.group g))
-  kept-value g s ws none e l o k r m = clash false k refl
-  kept-value g s ws (some v) e l o k r m =
+  kept-value g s ws None e l o k r m = clash false k refl
+  kept-value g s ws (Some v) e l o k r m =
       record {
         alive = l;
         live = l;
@@ -133,8 +131,8 @@ module _ (t : Tree) (w : WellFormed t) where
       → known (setting_value named line) ≡ true → passes (setting_value named line) in_range ≡ true
       → passes (setting_value named line) (has_room (settings_at t g)) ≡ true
       → Patch t g (written (setting_value named line) (t.group g))
-  kept-setting g none line l o k r m = clash false k refl
-  kept-setting g (some s) line l o k r m = kept-value g s (line_words line) (value_of s (line_words line)) refl l o k r m
+  kept-setting g None line l o k r m = clash false k refl
+  kept-setting g (Some s) line l o k r m = kept-value g s (line_words line) (value_of s (line_words line)) refl l o k r m
 
   -- a control line's set and what leaves it
   module _ (g : ℕ) (line : List ℕ) (l : lives t g ≡ true)
@@ -156,8 +154,8 @@ module _ (t : Tree) (w : WellFormed t) where
         (λ y. y)
         (λ n. let old : sets t g c ≡ true = rw e at (w.top_down.within c k lk nz h) in
         let q : (leaving t g line c && held_by_child t g c) ≡ false = any-controller-none _ held c in
-        let none : held_by_child t g c ≡ false = and-false (leaving t g line c) _ q (leave-true (sets t g c) (asked line c) old n) in
-        let z : (child_of g k (cores t k) && sets t k c) ≡ false = any_none groups (λ j. child_of g j (cores t j) && sets t j c) none k (w.sound.range k lk) in
+        let None : held_by_child t g c ≡ false = and-false (leaving t g line c) _ q (leave-true (sets t g c) (asked line c) old n) in
+        let z : (child_of g k (cores t k) && sets t k c) ≡ false = any_none groups (λ j. child_of g j (cores t j) && sets t j c) None k (w.sound.range k lk) in
         clash (sets t k c) h (and-false (child_of g k (cores t k)) _ z (child-of g k (cores t k) lk nz e)))
 
     set-quiet : (p : ℕ) → places t p ≡ at g → g ≢ 0 → (c : Controller) → new_set t g line c ≡ false

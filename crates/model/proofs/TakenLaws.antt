@@ -1,5 +1,6 @@
 -- When the number of a removed group is taken, as specs/ZombieRules.antt states it: exactly while some zombie's path runs through it,
 -- and what make answers of it. Assumes nothing.
+use Rattle.std.specs.Prelude.{Err}
 use Prim.Native.Nat.{ℕ}
 use mathlib.Core.Bool.{Bool, true, false}
 use mathlib.Core.List.{List, ◌∷◌, ◌++◌}
@@ -16,7 +17,6 @@ use Rattle.model.specs.WellFormed.{WellFormed}
 use Rattle.model.specs.ZombieRules.{before_taken, after_taken, Taken}
 use Rattle.model.specs.declared.Errno.{Errno}
 use Rattle.model.specs.declared.Errno.TheVariants.{Eexist}
-use Rattle.model.specs.declared.Answer.TheVariants.{Refused}
 use Rattle.model.proofs.FunctionLaws.{split, whether, clash, or-true, or_right, upd_same, upd_other}
 use Rattle.model.proofs.CheckLaws.{pass-first, first-append, and_then}
 use Rattle.model.proofs.ZombieLaws.{path-some, path-has, path-there, untaken-blank}
@@ -24,7 +24,7 @@ use Rattle.model.proofs.Remembering.{no_place}
 use Rattle.model.proofs.Steps.{step-accepted, well-formed-step}
 
 -- One check among others: it refuses where those before it pass, or it is as if it were not there.
-first-barred : (before after : List Check) (b : Bool) (e : Errno) → Pass before → b ≡ true → first (before ++ (bar b e ∷ after)) ≡ Refused e
+first-barred : (before after : List Check) (b : Bool) (e : Errno) → Pass before → b ≡ true → first (before ++ (bar b e ∷ after)) ≡ Err e
 unfolding first
 first-barred before after b e k y =
     first-append before (bar b e ∷ after) ∙ ap (λ a. and_then a (first (bar b e ∷ after))) (pass-first before k) ∙ rw y

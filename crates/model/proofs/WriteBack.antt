@@ -1,10 +1,10 @@
 -- Every line that a settings file shows can be written back by whoever may write it, and changes nothing: it reads as the value shown,
 -- which a well-formed tree has in range, and which is assigned where it stands. Assumes nothing.
+use Rattle.std.specs.Prelude.{Some, Ok}
 use Prim.Native.Nat.{ℕ, ◌*◌, ◌≤◌, ◌<◌}
 use native.Mathlib.Omega.{arith}
 use mathlib.Core.Bool.{true, false}
 use mathlib.Core.List.{List, [], ◌∷◌, map, append-nil}
-use mathlib.Core.Option.{some}
 use mathlib.Core.Path.{◌≡◌, ap, sym, ◌∙◌}
 use lib.ListN.{length, length-append, length-map}
 use borrow.Author.Tests.{lt-leb, le-leb, le-ltb}
@@ -27,7 +27,6 @@ use Rattle.model.specs.declared.Setting.{Setting}
 use Rattle.model.specs.declared.Setting.TheVariants.{CpuWeight, CpuMax, IoMax, Max}
 use Rattle.model.specs.declared.SettingValue.{SettingValue}
 use Rattle.model.specs.declared.File.TheVariants.{Value}
-use Rattle.model.specs.declared.Answer.TheVariants.{Done}
 use Rattle.model.proofs.FileReads.{file-read}
 use Rattle.model.proofs.FunctionLaws.{upd-id, all_of, all_map, all_both, all-images}
 use Rattle.model.proofs.CheckLaws.{pass-first}
@@ -61,13 +60,13 @@ module _ (t : Tree) (well : WellFormed t) (user g : ℕ) (s : Setting) (live : l
     (present : on t (setting_controller s) g ≡ true) (may : may_write t user (parents t g) ≡ true)
     (v : SettingValue) (line : List ℕ) (k : Shown s (settings_at t g) v) (same : line_words line ≡ words (value_text v))
     (short : length line ≤ longest_line) where
-  value-back : line_value (setting_name s) line ≡ some v
+  value-back : line_value (setting_name s) line ≡ Some v
   value-back = rw (setting_named-setting_name, same) k.reads
 
   present-back : passes (setting_named (setting_name s)) (λ x. on t (setting_controller x) g) ≡ true
   present-back = rw setting_named-setting_name present
 
-  accepted-back : verdict t (write_setting user g (setting_name s) line) ≡ Done
+  accepted-back : verdict t (write_setting user g (setting_name s) line) ≡ Ok tt
   unfolding verdict checks setting_checks Pass
   accepted-back =
       let number : no_group_number g ≡ false = lt-leb groups g (well.sound.range g live) in

@@ -3,8 +3,7 @@
 -- calls' effects. With the calls it shares types, sums (`usage`, `amount`), who is a child (`child_of`), where a process stands
 -- (`group_of`), whose limit counts what (`controller_of`), and the reading of lines (`line_process`, `line_value`, `asked`,
 -- `is_dropped`, `to_amount`, `map_limit`). Assumes nothing.
-use Rattle.std.specs.Prelude.{ℕ, zero, suc, ◌+◌, ◌-◌, min, true, false, List, [], ◌∷◌}
-use Rattle.std.proofs.Math.Option.{Option, none, some}
+use Rattle.std.specs.Prelude.{ℕ, zero, suc, ◌+◌, ◌-◌, min, true, false, List, [], ◌∷◌, Option, Some, None}
 use Rattle.model.specs.Functions.{upd, pick}
 use Rattle.model.specs.Sizes.{largest_machine}
 use Rattle.model.specs.Tree.{Tree, Core, Place, nowhere, at, group_of, controller_of, cores, places}
@@ -85,19 +84,19 @@ enter_limit b g r l =
 
 -- what the book enters of a value: no step for any setting but the two
 abbrev pub entry_of : SettingValue → Option (Resource × Limit)
-entry_of (Weight n) = none
-entry_of (Quota q) = none
-entry_of (Bandwidth q p) = none
-entry_of (Device a b p) = none
-entry_of (Maximum r l) = some (r, map_limit (to_amount r) l)
+entry_of (Weight n) = None
+entry_of (Quota q) = None
+entry_of (Bandwidth q p) = None
+entry_of (Device a b p) = None
+entry_of (Maximum r l) = Some (r, map_limit (to_amount r) l)
 
 abbrev pub enter_entry : Book → ℕ → Option (Resource × Limit) → Book
-enter_entry b g none = b
-enter_entry b g (some e) = enter_limit b g e.0 e.1
+enter_entry b g None = b
+enter_entry b g (Some e) = enter_limit b g e.0 e.1
 
 abbrev pub enter_value : Book → ℕ → Option SettingValue → Book
-enter_value b g none = b
-enter_value b g (some v) = enter_entry b g (entry_of v)
+enter_value b g None = b
+enter_value b g (Some v) = enter_entry b g (entry_of v)
 
 -- "where the last word on memory is "-memory", G's children lose their memory limits; the same for pids"
 abbrev pub limits_after : List ℕ → (Resource → Limit) → Resource → Limit

@@ -1,11 +1,10 @@
 -- The calls, with their arguments as they arrive, and the checks of each in the paper's order: document 01, "Calls and the
 -- order of their checks" and "What a reader sees", and orders 1 and 5. A line of the paper with "either" or "or" is two entries with one
 -- number. Assumes nothing.
-use Rattle.std.specs.Prelude.{ℕ, not, ◌&&◌, List, [], ◌∷◌, ◌++◌, eqb, leb, ltb}
-use Rattle.std.proofs.Math.Option.{Option, none, some}
+use Rattle.std.specs.Prelude.{ℕ, not, ◌&&◌, List, [], ◌∷◌, ◌++◌, eqb, leb, ltb, Option, Some, None}
 use Rattle.model.specs.Functions.{known, passes, or_else, mapped}
 use Rattle.model.specs.Sizes.{deepest, largest_charge}
-use Rattle.model.specs.Checks.{Check, bar, need, first}
+use Rattle.model.specs.Checks.{Check, bar, need, first, Answer}
 use Rattle.model.specs.Tree.{Tree, is_live, lives, parents, depths, sets, settings_at, places, zombies}
 use Rattle.model.specs.Hierarchy.{on, Facts, facts_of}
 use Rattle.model.specs.Zombies.{is_zombie, group_taken, process_taken}
@@ -21,7 +20,6 @@ use Rattle.model.specs.declared.Resource.TheVariants.{Pages, Processes}
 use Rattle.model.specs.declared.Setting.{Setting}
 use Rattle.model.specs.declared.SettingValue.{SettingValue}
 use Rattle.model.specs.declared.Errno.TheVariants.{Enoent, Esrch, Eagain, Eacces, Ebusy, Eexist, Einval, Enospc, Erange}
-use Rattle.model.specs.declared.Answer.{Answer}
 
 -- Lines, file names and reply buffers are bytes of any content and length.
 pub data Call : Type 0 where
@@ -42,8 +40,8 @@ pub data Call : Type 0 where
 
 -- the value that a line gives the setting of that name
 abbrev pub setting_value : Option Setting → List ℕ → Option SettingValue
-setting_value none line = none
-setting_value (some s) line = value_of s (line_words line)
+setting_value None line = None
+setting_value (Some s) line = value_of s (line_words line)
 
 abbrev pub line_value : List ℕ → List ℕ → Option SettingValue
 line_value file line = setting_value (setting_named file) line

@@ -1,8 +1,7 @@
 -- The search for the common ancestor: order 3 of document 02, "one walk will do: it compares only entries of equal depth, lowest
 -- first, and tells beside the group how many pairs it compared, the smaller depth less the found group's, plus one. Same question,
 -- same group". The question is `common_ancestor` of specs/Hierarchy.antt. Assumes nothing.
-use Rattle.std.specs.Prelude.{ℕ, zero, suc, ◌+◌, ◌-◌, ◌≤◌, ◌<◌, min, true, false, ◌≢◌, ◌≡◌, eqb, get_or}
-use Rattle.std.proofs.Math.Option.{Option, none, some}
+use Rattle.std.specs.Prelude.{ℕ, zero, suc, ◌+◌, ◌-◌, ◌≤◌, ◌<◌, min, true, false, ◌≢◌, ◌≡◌, eqb, get_or, Option, Some, None}
 use Rattle.model.specs.Functions.{mapped}
 use Rattle.model.specs.Tree.{Tree, parents, depths}
 use Rattle.model.specs.Hierarchy.{chain, inside, common_ancestor}
@@ -32,8 +31,8 @@ one_pair_more m = meeting_of m.group.0 (m.compared + 1)
 
 -- from depth d up, where x and y have the entries of the two chains
 unfoldable pub walk : (ℕ → ℕ) → (ℕ → ℕ) → ℕ → Option Meeting
-walk x y zero = elim (eqb (x 0) (y 0)) [ true ↦ some (meeting_of (x 0) 1) | false ↦ none ]
-walk x y (suc d) = elim (eqb (x (suc d)) (y (suc d))) [ true ↦ some (meeting_of (x (suc d)) 1) | false ↦ mapped one_pair_more (walk x y d) ]
+walk x y zero = elim (eqb (x 0) (y 0)) [ true ↦ Some (meeting_of (x 0) 1) | false ↦ None ]
+walk x y (suc d) = elim (eqb (x (suc d)) (y (suc d))) [ true ↦ Some (meeting_of (x (suc d)) 1) | false ↦ mapped one_pair_more (walk x y d) ]
 
 -- an entry is on the chain, and has the depth that it is the entry at
 pub record AtDepth (t : Tree) (g d : ℕ) : Type 0 where
@@ -49,5 +48,5 @@ pub record OneWalk (t : Tree) (g h : ℕ) : Type 0 where
   pub reached : found_depth t g h ≤ smaller_depth t g h
   pub left : entry_at t g (found_depth t g h) ≡ common_ancestor (parents t) g h
   pub right : entry_at t h (found_depth t g h) ≡ common_ancestor (parents t) g h
-  pub found : walk (entry_at t g) (entry_at t h) (smaller_depth t g h) ≡ some (meeting t g h)
+  pub found : walk (entry_at t g) (entry_at t h) (smaller_depth t g h) ≡ Some (meeting t g h)
   pub itself : g ≡ h → meeting t g h ≡ meeting_of g 1

@@ -1,7 +1,6 @@
 -- Containment, the last sentence of demand 2: "A user other than 0, all of whose groups lie inside one handed-over part, never
 -- moves a process across that part's edge." Of one call, and of every list of calls. Assumes nothing.
-use Rattle.std.specs.Prelude.{ℕ, true, false, List, ◌≢◌, ◌≡◌}
-use Rattle.std.proofs.Math.Option.{Option, none, some}
+use Rattle.std.specs.Prelude.{ℕ, true, false, List, ◌≢◌, ◌≡◌, Option, Some, None}
 use Rattle.model.specs.Tree.{Tree, at, lives, parents, owners, places}
 use Rattle.model.specs.Hierarchy.{inside}
 use Rattle.model.specs.Calls.{Call}
@@ -10,20 +9,20 @@ use Rattle.model.specs.Lists.{Accepted, Each, Never}
 
 -- the user that makes a call, where one does
 abbrev pub caller : Call → Option ℕ
-caller (Call.make user parent new) = some user
-caller (Call.remove user g) = some user
-caller (Call.hand_over user g owner) = some user
-caller (Call.write_procs user g line) = some user
-caller (Call.write_control user g line) = some user
-caller (Call.write_setting user g file line) = some user
-caller (Call.admit p user) = none
-caller (Call.fork p new) = none
-caller (Call.exit p) = none
-caller (Call.collect p) = none
-caller (Call.charge p n) = none
-caller (Call.release g n) = none
-caller (Call.read g file buffer) = none
-caller (Call.membership p buffer) = none
+caller (Call.make user parent new) = Some user
+caller (Call.remove user g) = Some user
+caller (Call.hand_over user g owner) = Some user
+caller (Call.write_procs user g line) = Some user
+caller (Call.write_control user g line) = Some user
+caller (Call.write_setting user g file line) = Some user
+caller (Call.admit p user) = None
+caller (Call.fork p new) = None
+caller (Call.exit p) = None
+caller (Call.collect p) = None
+caller (Call.charge p n) = None
+caller (Call.release g n) = None
+caller (Call.read g file buffer) = None
+caller (Call.membership p buffer) = None
 
 -- "all of whose groups lie inside one handed-over part": the part is d and all below it
 abbrev pub OwnsInside : Tree → ℕ → ℕ → Type 0
@@ -43,8 +42,8 @@ pub record GivesOutside (user d : ℕ) (t : Tree) (c : Call) : Type 0 where
 
 -- Of one call. Where nobody is named no process moves at all.
 pub record Contained (t : Tree) : Type 0 where
-  pub across : (user d : ℕ) (c : Call) → user ≢ 0 → OwnsInside t user d → caller c ≡ some user → NoneAcross d t (step t c)
-  pub nobody : (c : Call) → caller c ≡ none → (p g h : ℕ) → places t p ≡ at g → places (step t c) p ≡ at h → g ≡ h
+  pub across : (user d : ℕ) (c : Call) → user ≢ 0 → OwnsInside t user d → caller c ≡ Some user → NoneAcross d t (step t c)
+  pub nobody : (c : Call) → caller c ≡ None → (p g h : ℕ) → places t p ≡ at g → places (step t c) p ≡ at h → g ≡ h
 
 -- Every call of anybody leaves the user's groups inside d, but for the one kind, which does not.
 pub record OneKind (t : Tree) : Type 0 where
@@ -55,7 +54,7 @@ pub record OneKind (t : Tree) : Type 0 where
 -- edge by his hand.
 pub record ContainedOver (t : Tree) (user d : ℕ) (cs : List Call) : Type 0 where
   pub owns : OwnsInside (run t cs) user d
-  pub across : Each (λ s c. caller c ≡ some user → NoneAcross d s (step s c)) t cs
+  pub across : Each (λ s c. caller c ≡ Some user → NoneAcross d s (step s c)) t cs
 
 abbrev pub NeverAcross : Tree → Type 0
 NeverAcross t =

@@ -1,11 +1,10 @@
 -- The three demands of docs/papers/00-demands.md, as statements about the definitions; what is quoted here is from there, from
 -- document 01, or from the order that is named beside it. `Demands` at the end is all of them, and proofs/Demands.antt shows it.
 -- Assumes nothing.
-use Rattle.std.specs.Prelude.{ℕ, suc, ◌≤◌, max, true, false, List, [], ◌∷◌, ◌++◌, ◌≢◌, ◌≡◌, length}
-use Rattle.std.proofs.Math.Option.{none, some}
+use Rattle.std.specs.Prelude.{ℕ, suc, ◌≤◌, max, true, false, List, [], ◌∷◌, ◌++◌, ◌≢◌, ◌≡◌, length, Some, None, Ok, Err}
 use Rattle.model.specs.Functions.{All}
 use Rattle.model.specs.Sizes.{longest_shown}
-use Rattle.model.specs.Checks.{errno_number, Says}
+use Rattle.model.specs.Checks.{errno_number, Says, Answer}
 use Rattle.model.specs.Tree.{Tree, depths, group_of, controller_of, cores, lives, parents, places}
 use Rattle.model.specs.Hierarchy.{chain, common_ancestor, on, inside, amount, facts_of}
 use Rattle.model.specs.CommonAncestor.{OneWalk}
@@ -41,8 +40,6 @@ use Rattle.model.specs.declared.Setting.{Setting}
 use Rattle.model.specs.declared.Setting.TheVariants.{Max}
 use Rattle.model.specs.declared.File.TheVariants.{Current, Value}
 use Rattle.model.specs.declared.Errno.{Errno}
-use Rattle.model.specs.declared.Answer.{Answer}
-use Rattle.model.specs.declared.Answer.TheVariants.{Done, Refused}
 
 -- a tree that calls can reach from a fresh one of some size
 pub record Reachable (t : Tree) : Type 0 where
@@ -66,15 +63,15 @@ pub record TurnedAway (t : Tree) (c : Call) (e : Errno) : Type 0 where
   pub size : (reply t c).size ≡ 0
 
 pub record Demand1 : Type 0 where
-  pub refused : (t : Tree) (c : Call) (e : Errno) → verdict t c ≡ Refused e → TurnedAway t c e
-  pub numbered : (t : Tree) (c : Call) → (reply t c).number ≡ 0 → verdict t c ≡ Done
+  pub refused : (t : Tree) (c : Call) (e : Errno) → verdict t c ≡ Err e → TurnedAway t c e
+  pub numbered : (t : Tree) (c : Call) → (reply t c).number ≡ 0 → verdict t c ≡ Ok tt
 
 -- Demand 2. "Calls are turned away exactly when a listed rule of the version 2 papers, as document 01 fixes them, says so, and
 -- otherwise do exactly what the rule says."
 pub record Exactly (t : Tree) (c : Call) : Type 0 where
   pub says : Says (checks (facts_of t) c) (verdict t c)
   pub only : (a : Answer) → Says (checks (facts_of t) c) a → a ≡ verdict t c
-  pub accepted : verdict t c ≡ Done → (step t c ≡ effect t c) × ((reply t c).number ≡ 0)
+  pub accepted : verdict t c ≡ Ok tt → (step t c ≡ effect t c) × ((reply t c).number ≡ 0)
 
 -- "What a settings file shows can be written back by whoever may write it, and changes nothing." Order 1: it "speaks here of one
 -- device line; a write carries one device". Each line that a file shows, as it stands and without its newline; the files of document
@@ -83,13 +80,13 @@ abbrev pub shown_by : Tree → ℕ → Setting → List ℕ
 shown_by t g s = contents (facts_of t) g (Value s)
 
 pub record WrittenBack (t : Tree) (user g : ℕ) (s : Setting) (line : List ℕ) : Type 0 where
-  pub accepted : verdict t (write_setting user g (setting_name s) line) ≡ Done
+  pub accepted : verdict t (write_setting user g (setting_name s) line) ≡ Ok tt
   pub same : step t (write_setting user g (setting_name s) line) ≡ t
 
 pub record WriteBack (t : Tree) : Type 0 where
   pub shown : (g : ℕ) (s : Setting) (buffer : List ℕ) → lives t g ≡ true → on t (setting_controller s) g ≡ true
       → fits (shown_by t g s) buffer ≡ true
-      → reply t (read g (setting_name s) buffer) ≡ text_reply Done (shown_by t g s) buffer
+      → reply t (read g (setting_name s) buffer) ≡ text_reply (Ok tt) (shown_by t g s) buffer
   pub each : (user g : ℕ) (s : Setting) → lives t g ≡ true → on t (setting_controller s) g ≡ true
       → may_write t user (parents t g) ≡ true
       → All (λ line. WrittenBack t user g s line × WrittenBack t user g s (body line)) (lines_of (shown_by t g s))
@@ -113,7 +110,7 @@ LimitLeft t r g (Figure n) = LimitKept t r g n
 -- what every accepted line of memory.max or pids.max leaves
 abbrev pub Rounds : Tree → Type 0
 Rounds t =
-    (r : Resource) (user g : ℕ) (l : Limit) (line : List ℕ) → one_word limit_word (line_words line) ≡ some l
+    (r : Resource) (user g : ℕ) (l : Limit) (line : List ℕ) → one_word limit_word (line_words line) ≡ Some l
     → Accepted t (write_setting user g (setting_name (Max r)) line)
     → LimitLeft (step t (write_setting user g (setting_name (Max r)) line)) r g l
 
@@ -127,12 +124,12 @@ StoppedAt t r n g h k =
 -- number is 12 of a charge or 11 of a fork.
 pub record Counted (t : Tree) : Type 0 where
   pub success : (r : Resource) (n p : ℕ) (c : Call) → Asks r n p c → (reply t c).number ≡ 0
-      → ((reply t c).consulted ≡ suc (depths t (process_group t p))) × ((reply t c).group ≡ none)
-  pub stopped : (r : Resource) (n p h : ℕ) (c : Call) → Asks r n p c → (reply t c).group ≡ some h
+      → ((reply t c).consulted ≡ suc (depths t (process_group t p))) × ((reply t c).group ≡ None)
+  pub stopped : (r : Resource) (n p h : ℕ) (c : Call) → Asks r n p c → (reply t c).group ≡ Some h
       → ((reply t c).number ≡ errno_number (shortage r)) × StoppedAt t r n (process_group t p) h (reply t c).consulted
   pub named : (r : Resource) (n p : ℕ) (c : Call) → Asks r n p c → (reply t c).number ≡ errno_number (shortage r)
-      → (h : ℕ) × ((reply t c).group ≡ some h) × StoppedAt t r n (process_group t p) h (reply t c).consulted
-  pub other : (r : Resource) (n p : ℕ) (c : Call) → Asks r n p c → (reply t c).number ≢ 0 → (reply t c).group ≡ none
+      → (h : ℕ) × ((reply t c).group ≡ Some h) × StoppedAt t r n (process_group t p) h (reply t c).consulted
+  pub other : (r : Resource) (n p : ℕ) (c : Call) → Asks r n p c → (reply t c).number ≢ 0 → (reply t c).group ≡ None
       → (reply t c).consulted ≡ 0
 
 -- "the lowest group that is on both chains"
@@ -190,7 +187,7 @@ pub record Alike (t : Tree) (b : Book) : Type 0 where
   pub amount : (r : Resource) (g : ℕ) → amount (cores t) (places t) r g ≡ in_book b r g
   pub shows : (r : Resource) (g : ℕ) (buffer : List ℕ) → lives t g ≡ true → on t (controller_of r) g ≡ true
       → fits (ended (decimal (to_figure r (in_book b r g)))) buffer ≡ true
-      → reply t (read g (file_name (Current r)) buffer) ≡ text_reply Done (ended (decimal (to_figure r (in_book b r g)))) buffer
+      → reply t (read g (file_name (Current r)) buffer) ≡ text_reply (Ok tt) (ended (decimal (to_figure r (in_book b r g)))) buffer
 
 -- "A group with a page limit never has more pages than the larger of that limit and the pages it had when the limit was last
 -- written", and the root is never over the machine

@@ -4,8 +4,7 @@
 -- asks the book who is whose child, and shares none of the calls' effects. With the calls it shares types, a device's number
 -- (`device_of`), who is a child (`child_of`) and the reading of lines (`line_value`, `pair_of`, `asked`, `is_dropped`), and where it meets a
 -- tree the look-up of a device (`limits_at`); DeviceReplies says it of the text that readers get. Assumes nothing.
-use Rattle.std.specs.Prelude.{ℕ, List, [], ◌∷◌, ◌≡◌, eqb}
-use Rattle.std.proofs.Math.Option.{Option, none, some}
+use Rattle.std.specs.Prelude.{ℕ, List, [], ◌∷◌, ◌≡◌, eqb, Option, Some, None}
 use Rattle.model.specs.Functions.{upd, pick}
 use Rattle.model.specs.Devices.{device_of, pair_of, limits_at}
 use Rattle.model.specs.Tree.{Tree, Core, Group}
@@ -17,8 +16,6 @@ use Rattle.model.specs.Lists.{log}
 use Rattle.model.specs.declared.Limit.{Limit}
 use Rattle.model.specs.declared.Limit.TheVariants.{NoLimit}
 use Rattle.model.specs.declared.Key.{Key}
-use Rattle.model.specs.declared.Pair.{Pair}
-use Rattle.model.specs.declared.Pair.TheVariants.{Absent, Given}
 use Rattle.model.specs.declared.Controller.TheVariants.{Io}
 use Rattle.model.specs.declared.SettingValue.{SettingValue}
 use Rattle.model.specs.declared.SettingValue.TheVariants.{Weight, Quota, Bandwidth, Device, Maximum}
@@ -45,9 +42,9 @@ abbrev pub account_of : Tree → Account
 account_of t g = rates_of (t.group g)
 
 -- A line for a device: each key that it gives becomes what it gives, and every other keeps what it had; "no pair is no change".
-abbrev pub rate_after : Limit → Pair → Limit
-rate_after l Absent = l
-rate_after l (Given m) = m
+abbrev pub rate_after : Limit → Option Limit → Limit
+rate_after l None = l
+rate_after l (Some m) = m
 
 -- what the account enters of a value: no step for any setting but io.max
 abbrev pub rates_after : Rates → SettingValue → Rates
@@ -60,8 +57,8 @@ rates_after l (Device major minor p) =
 rates_after l (Maximum r m) = l
 
 abbrev pub rates_written : Rates → Option SettingValue → Rates
-rates_written l none = l
-rates_written l (some v) = rates_after l v
+rates_written l None = l
+rates_written l (Some v) = rates_after l v
 
 -- in the book's words: where the last word on io is "-io", G's children lose their limits
 abbrev pub child_rates : ℕ → List ℕ → ℕ → Core → Rates → Rates

@@ -1,8 +1,7 @@
 -- A fourth table of evenings, of io.max: the example of order 1; the number of each refusal, and that the earlier of two wins; the
 -- ends of its ranges; what a line changes and leaves; room; and the table when io leaves. Assumes nothing.
-use Rattle.std.specs.Prelude.{ℕ, List, [], ◌∷◌, ◌++◌, map, drop, replicate}
+use Rattle.std.specs.Prelude.{ℕ, List, [], ◌∷◌, ◌++◌, map, drop, replicate, None}
 use Prim.Native.String.{String}
-use Rattle.std.proofs.Math.Option.{none}
 use Rattle.model.specs.Text.{bytes}
 use Rattle.model.specs.Calls.{Call, make, remove, hand_over, write_setting, admit, fork, charge, release, read}
 use Rattle.model.specs.Worked.{Exchange, exchange, succeeds, refuses, granted, reads, setting, control, procs, Evening, evening}
@@ -106,7 +105,7 @@ device_lengths =
     ++ succeeds (limits longest_device) ∷ fills 1 "io.max" longest_device ∷ []
     ++ all_succeed (map (λ d. write_setting 0 1 (bytes "io.max") (longest_of d)) ("255:252" ∷ "255:253" ∷ "255:254" ∷ []))
     ++ overflows 1 "io.max" 391
-    ∷ exchange (read 1 (bytes "io.max") (replicate 392 0)) 0 none 0 392
+    ∷ exchange (read 1 (bytes "io.max") (replicate 392 0)) 0 None 0 392
     (longest_of "255:252" ++ (longest_of "255:253" ++ (longest_of "255:254" ++ longest_of "255:255"))) ∷ [])
 
 -- "A controller that leaves resets its settings in all children": io.max too, and no other controller's; "-io +io" is no leaving. A

@@ -2,12 +2,11 @@
 -- write answers 28. "Reading gives devices ascending, all four keys in that order, and no line where all four are "max"": what a
 -- read delivers, made from the limits alone by going over all devices, with no table and none of the words of DeviceLines.
 -- proofs/DeviceReplyLaws.antt shows all of it. Assumes nothing.
-use Rattle.std.specs.Prelude.{ℕ, zero, suc, ◌*◌, ◌/◌, ◌%◌, true, List, [], ◌++◌, ◌≡◌}
-use Rattle.std.proofs.Math.Option.{some}
+use Rattle.std.specs.Prelude.{ℕ, zero, suc, ◌*◌, ◌/◌, ◌%◌, true, List, [], ◌++◌, ◌≡◌, Some, Ok}
 use Rattle.model.specs.Functions.{pick}
 use Rattle.model.specs.Sizes.{device_numbers}
 use Rattle.model.specs.Checks.{first}
-use Rattle.model.specs.Devices.{all_max}
+use Rattle.model.specs.Devices.{all_max, Pairs}
 use Rattle.model.specs.Tree.{Tree, lives, settings_at}
 use Rattle.model.specs.Hierarchy.{on, facts_of}
 use Rattle.model.specs.Text.{bytes, decimal}
@@ -20,12 +19,10 @@ use Rattle.model.specs.DeviceBook.{Rates, Account}
 use Rattle.model.specs.declared.Limit.{Limit}
 use Rattle.model.specs.declared.Key.{Key}
 use Rattle.model.specs.declared.Key.TheVariants.{Rbps, Wbps, Riops, Wiops}
-use Rattle.model.specs.declared.Pairs.{Pairs}
 use Rattle.model.specs.declared.Controller.TheVariants.{Io}
 use Rattle.model.specs.declared.Setting.TheVariants.{IoMax}
 use Rattle.model.specs.declared.SettingValue.TheVariants.{Device}
 use Rattle.model.specs.declared.File.TheVariants.{Value}
-use Rattle.model.specs.declared.Answer.TheVariants.{Done}
 
 -- a write of io.max that passes every other check, and whose device is a fifth
 pub record FifthWrite (t : Tree) (user g : ℕ) (file line : List ℕ) : Type 0 where
@@ -33,8 +30,8 @@ pub record FifthWrite (t : Tree) (user g : ℕ) (file line : List ℕ) : Type 0 
   pub minor : ℕ
   pub pairs : Pairs
   pub name : file ≡ bytes "io.max"
-  pub value : line_value file line ≡ some (Device major minor pairs)
-  pub others : first (setting_checks t user g file line) ≡ Done
+  pub value : line_value file line ≡ Some (Device major minor pairs)
+  pub others : first (setting_checks t user g file line) ≡ Ok tt
   pub fifth : Fifth (settings_at t g) major minor pairs
 
 -- a write of a setting, io.max or another, answers 28 exactly then
@@ -72,4 +69,4 @@ io_max_text rates = device_lines_from rates 0 (device_numbers * device_numbers)
 pub record DeviceReading (t : Tree) (a : Account) : Type 0 where
   pub text : (g : ℕ) → lives t g ≡ true → contents (facts_of t) g (Value IoMax) ≡ io_max_text (a g)
   pub delivered : (g : ℕ) (buffer : List ℕ) → lives t g ≡ true → on t Io g ≡ true → fits (io_max_text (a g)) buffer ≡ true
-      → reply t (read g (bytes "io.max") buffer) ≡ text_reply Done (io_max_text (a g)) buffer
+      → reply t (read g (bytes "io.max") buffer) ≡ text_reply (Ok tt) (io_max_text (a g)) buffer

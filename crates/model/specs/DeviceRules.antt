@@ -3,12 +3,11 @@
 -- Assumes nothing.
 use Rattle.std.specs.Prelude.{ℕ, ◌<◌, true, false, List, ◌≢◌, ◌⊎◌, ◌≡◌, length}
 use Rattle.model.specs.Sizes.{device_numbers, most_devices}
-use Rattle.model.specs.Devices.{device_of, all_max, DeviceLimits, limits_at, changed, Table}
+use Rattle.model.specs.Devices.{device_of, all_max, DeviceLimits, limits_at, changed, Table, Pairs}
 use Rattle.model.specs.Tree.{Settings}
 use Rattle.model.specs.DeviceLines.{no_pairs}
 use Rattle.model.specs.Settings.{assign, has_room}
 use Rattle.model.specs.declared.Key.{Key}
-use Rattle.model.specs.declared.Pairs.{Pairs}
 use Rattle.model.specs.declared.SettingValue.TheVariants.{Device}
 
 -- ascending as numbers is ascending by major and then by minor, and two devices are not one number

@@ -1,16 +1,14 @@
 -- The devices of io.max, and the table that a group keeps of them: order 1, "Disks need their share too". A device is kept as one
 -- number, in which ascending is ascending by major and then by minor; a table has every device that has a limit, ascending, and no
 -- other, so that one table has one description. How a line reads and is shown is in DeviceLines. Assumes nothing.
-use Rattle.std.specs.Prelude.{ℕ, suc, ◌+◌, ◌*◌, ◌/◌, ◌%◌, ◌≤◌, Bool, true, false, ◌&&◌, List, [], ◌∷◌, ◌≡◌, eqb, ltb, length}
+use Rattle.std.specs.Prelude.{ℕ, suc, ◌+◌, ◌*◌, ◌/◌, ◌%◌, ◌≤◌, Bool, true, false, ◌&&◌, List, [], ◌∷◌, ◌≡◌, eqb, ltb, length, Option, Some, None}
 use Rattle.model.specs.Functions.{pick, All}
 use Rattle.model.specs.Sizes.{device_numbers, most_devices}
 use Rattle.model.specs.declared.Limit.{Limit}
 use Rattle.model.specs.declared.Limit.TheVariants.{NoLimit, Figure}
 use Rattle.model.specs.declared.Key.{Key}
+use Rattle.model.specs.declared.PerKey.{PerKey}
 use Rattle.model.specs.declared.Key.TheVariants.{Rbps, Wbps, Riops, Wiops}
-use Rattle.model.specs.declared.Pair.{Pair}
-use Rattle.model.specs.declared.Pair.TheVariants.{Absent, Given}
-use Rattle.model.specs.declared.Pairs.{Pairs}
 
 -- "a device major:minor, each 0 to 255", as one number, and its two numbers
 abbrev pub device_of : ℕ → ℕ → ℕ
@@ -30,14 +28,23 @@ keys = Rbps ∷ Wbps ∷ Riops ∷ Wiops ∷ []
 abbrev pub every_key : (Key → Bool) → Bool
 every_key f = f Rbps && (f Wbps && (f Riops && f Wiops))
 
--- What a line gives its keys, by the key, and from what each is given.
-abbrev pub pair_of : Pairs → Key → Pair
-pair_of p Rbps = p.rbps
-pair_of p Wbps = p.wbps
-pair_of p Riops = p.riops
-pair_of p Wiops = p.wiops
+-- What a line gives its keys: nothing to one that it does not name.
+abbrev pub Pairs : Type 0
+Pairs = PerKey (Option Limit)
 
-abbrev pub pairs_of : (Key → Pair) → Pairs
+-- what a value for each key has for one of them
+module _ {A : Type 0} where
+  abbrev pub at_key : PerKey A → Key → A
+  at_key v Rbps = v.rbps
+  at_key v Wbps = v.wbps
+  at_key v Riops = v.riops
+  at_key v Wiops = v.wiops
+
+-- What a line gives a key, and from what each is given.
+abbrev pub pair_of : Pairs → Key → Option Limit
+pair_of p k = at_key p k
+
+abbrev pub pairs_of : (Key → Option Limit) → Pairs
 pairs_of f = record { rbps = f Rbps; wbps = f Wbps; riops = f Riops; wiops = f Wiops }
 
 -- a device and its limits
@@ -59,9 +66,9 @@ limits_at d [] k = NoLimit
 limits_at d (x ∷ xs) k = pick (eqb x.device d) (x.limit k) (limits_at d xs k)
 
 -- the limits after a line: what it gives, and the rest as before
-abbrev pub or_before : Limit → Pair → Limit
-or_before l Absent = l
-or_before l (Given m) = m
+abbrev pub or_before : Limit → Option Limit → Limit
+or_before l None = l
+or_before l (Some m) = m
 
 abbrev pub changed : Pairs → (Key → Limit) → Key → Limit
 changed p l k = or_before (l k) (pair_of p k)

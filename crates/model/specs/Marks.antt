@@ -1,8 +1,7 @@
 -- What a page limit and the book's mark are, said of the list of calls alone: "G's limit becomes the line's, as that call reads it;
 -- for memory.max the mark becomes G's usage at that moment". Document 01, "The book of demand 3", with order 2; the last sentence of
 -- demand 3. Assumes nothing.
-use Rattle.std.specs.Prelude.{ℕ, List, ◌⊎◌, ◌≡◌}
-use Rattle.std.proofs.Math.Option.{some}
+use Rattle.std.specs.Prelude.{ℕ, List, ◌⊎◌, ◌≡◌, Some}
 use Rattle.model.specs.Tree.{Tree, cores}
 use Rattle.model.specs.Hierarchy.{usage}
 use Rattle.model.specs.Text.{bytes, line_words, one_word}
@@ -25,7 +24,7 @@ pub record SetsMemoryMax (g : ℕ) (t : Tree) (c : Call) : Type 0 where
 pub record Leaves (g l m : ℕ) (t : Tree) (c : Call) : Type 0 where
   pub write : SetsMemoryMax g t c
   pub figure : ℕ
-  pub word : one_word limit_word (line_words write.line) ≡ some (Figure figure)
+  pub word : one_word limit_word (line_words write.line) ≡ Some (Figure figure)
   pub rounded : RoundedDown Pages figure l
   pub marked : m ≡ usage (cores (step t c)) g
 

@@ -1,8 +1,7 @@
 -- The names of controllers and files, and which name is which: document 01, "What the host keeps" and "What a reader sees", and
 -- order 1.
 -- Assumes nothing.
-use Rattle.std.specs.Prelude.{ℕ, List, [], ◌∷◌, ◌++◌, map}
-use Rattle.std.proofs.Math.Option.{Option, none, some}
+use Rattle.std.specs.Prelude.{ℕ, List, [], ◌∷◌, ◌++◌, map, Option, Some, None}
 use Rattle.model.specs.Functions.{pick}
 use Rattle.model.specs.Text.{bytes, same_bytes}
 use Rattle.model.specs.declared.Resource.TheVariants.{Pages, Processes}
@@ -59,8 +58,8 @@ file_name (Value s) = setting_name s
 
 -- the first of a list whose name it is
 unfoldable pub named : {A : Type 0} → (A → List ℕ) → List ℕ → List A → Option A
-named name w [] = none
-named name w (a ∷ as') = pick (same_bytes w (name a)) (some a) (named name w as')
+named name w [] = None
+named name w (a ∷ as') = pick (same_bytes w (name a)) (Some a) (named name w as')
 
 abbrev pub controller_named : List ℕ → Option Controller
 controller_named w = named controller_name w controllers

@@ -1,9 +1,8 @@
 -- A third table of evenings, beside Worked.antt and Refusals.antt: what the accepted calls of document 01 and of order 2 do and
 -- what they leave as it is, the ends of ranges from inside, and each file where it is and where it is not, empty and full.
 -- Assumes nothing.
-use Rattle.std.specs.Prelude.{ℕ, List, [], ◌∷◌, ◌++◌, map, length, replicate}
+use Rattle.std.specs.Prelude.{ℕ, List, [], ◌∷◌, ◌++◌, map, length, replicate, None}
 use Prim.Native.String.{String}
-use Rattle.std.proofs.Math.Option.{none}
 use Rattle.model.specs.Text.{bytes}
 use Rattle.model.specs.Calls.{make, remove, hand_over, write_setting, admit, fork, exit, collect, charge, release, read, membership}
 use Rattle.model.specs.Worked.{Exchange, exchange, succeeds, refuses, granted, stopped, reads, belongs, setting, control, procs, Evening, evening}
@@ -13,10 +12,10 @@ use Rattle.model.specs.Refusals.{all_succeed, all_get, all_controllers, unread, 
 abbrev pub fills : ℕ → String → String → Exchange
 fills g file text =
     let n : ℕ = length (bytes text) in
-    exchange (read g (bytes file) (replicate n 0)) 0 none 0 n (bytes text)
+    exchange (read g (bytes file) (replicate n 0)) 0 None 0 n (bytes text)
 
 abbrev pub overflows : ℕ → String → ℕ → Exchange
-overflows g file n = exchange (read g (bytes file) (replicate n 1)) 28 none 0 0 (replicate n 1)
+overflows g file n = exchange (read g (bytes file) (replicate n 1)) 28 None 0 0 (replicate n 1)
 
 -- files that are only where their controller is on
 abbrev pub resource_files : List String
@@ -151,8 +150,8 @@ far_up =
     evening 8
     (all_succeed (descent 0 deep_chain)
     ++ all_succeed (make 0 240 1 ∷ hand_over 0 1 7 ∷ control 0 0 "+memory +pids" ∷ admit 5 7 ∷ procs 0 255 "5" ∷ [])
-    ++ exchange (membership 5 (replicate 67 1)) 28 none 0 0 (replicate 67 1) ∷ []
-    ++ exchange (membership 5 (replicate 68 1)) 0 none 0 68 (bytes deep_line) ∷ []
+    ++ exchange (membership 5 (replicate 67 1)) 28 None 0 0 (replicate 67 1) ∷ []
+    ++ exchange (membership 5 (replicate 68 1)) 0 None 0 68 (bytes deep_line) ∷ []
     ++ all_succeed (setting 0 240 "memory.max" "4096" ∷ setting 0 240 "pids.max" "1" ∷ []) ++ granted (charge 5 1) 17 ∷ []
     ++ stopped (charge 5 1) 12 240 16 ∷ stopped (fork 5 6) 11 240 16 ∷ reads 240 "memory.current" "4096\n" ∷ []
     ++ reads_in (240 ∷ 247 ∷ 248 ∷ 255 ∷ []) "cgroup.events" "populated 1\n"
@@ -259,8 +258,8 @@ whole_replies =
     ++ fills 0 "cgroup.controllers" "cpu io memory pids\n" ∷ fills 0 "cgroup.subtree_control" "" ∷ []
     ++ fills 3 "cgroup.controllers" "" ∷ fills 3 "cgroup.subtree_control" "" ∷ fills 3 "cgroup.procs" "" ∷ []
     ++ succeeds (control 0 0 "+cpu +memory") ∷ fills 0 "cgroup.subtree_control" "cpu memory\n" ∷ []
-    ++ succeeds (procs 0 7 "12") ∷ exchange (membership 12 (replicate 7 1)) 28 none 0 0 (replicate 7 1) ∷ []
-    ++ exchange (membership 12 (replicate 8 1)) 0 none 0 8 (bytes "0::/3/7\n") ∷ [])
+    ++ succeeds (procs 0 7 "12") ∷ exchange (membership 12 (replicate 7 1)) 28 None 0 0 (replicate 7 1) ∷ []
+    ++ exchange (membership 12 (replicate 8 1)) 0 None 0 8 (bytes "0::/3/7\n") ∷ [])
 
 -- 3 under 2 under 1; in 2 two processes, 5 and 6, and one page, which was charged while memory was off
 abbrev pub standing : List Exchange

@@ -2,9 +2,8 @@
 -- wherever two checks can both fail, that the earlier one's number wins; who may; and the lines that are malformed. The ends of ranges
 -- are order 4's, and of the numbers further out each would be in range if it were kept in 8, 10 or 32 bits. What accepted calls do, and
 -- what readers see, is in Outcomes.antt. Group 9 and process 9 are never live. Assumes nothing.
-use Rattle.std.specs.Prelude.{ℕ, ◌-◌, List, [], ◌∷◌, ◌++◌, map, length, replicate}
+use Rattle.std.specs.Prelude.{ℕ, ◌-◌, List, [], ◌∷◌, ◌++◌, map, length, replicate, None}
 use Prim.Native.String.{String}
-use Rattle.std.proofs.Math.Option.{none}
 use Rattle.model.specs.Text.{bytes, space, ended}
 use Rattle.model.specs.Calls.{Call, make, remove, hand_over, write_procs, write_control, write_setting, admit, fork, exit, collect, charge, release, read, membership}
 use Rattle.model.specs.Worked.{Exchange, exchange, succeeds, refuses, granted, stopped, sentinels, reads, belongs, setting, control, procs, Evening, evening}
@@ -26,10 +25,10 @@ padded n text = bytes text ++ replicate (n - length (bytes text)) space
 
 -- a reader who is refused, and whose bytes stay as they were
 abbrev pub unread : ℕ → String → ℕ → Exchange
-unread g file n = exchange (read g (bytes file) sentinels) n none 0 0 sentinels
+unread g file n = exchange (read g (bytes file) sentinels) n None 0 0 sentinels
 
 abbrev pub unknown : ℕ → ℕ → Exchange
-unknown p n = exchange (membership p sentinels) n none 0 0 sentinels
+unknown p n = exchange (membership p sentinels) n None 0 0 sentinels
 
 -- groups 2 and 3 under 1, all three user 7's; in the root process 5, user 7's, and process 6, user 8's
 abbrev pub begun : List Exchange

@@ -1,6 +1,5 @@
 -- The tests that the checks of document 01, "Calls and the order of their checks", are made of. Assumes nothing.
-use Rattle.std.specs.Prelude.{ℕ, Bool, false, ◌&&◌, ◌||◌, List, eqb, leb}
-use Rattle.std.proofs.Math.Option.{Option}
+use Rattle.std.specs.Prelude.{ℕ, Bool, false, ◌&&◌, ◌||◌, List, eqb, leb, Option}
 use Rattle.model.specs.Functions.{any, or_else}
 use Rattle.model.specs.Sizes.{groups, processes}
 use Rattle.model.specs.Tree.{Tree, Place, nowhere, at, group_of, cores, parents, owners, sets, places}

@@ -2,8 +2,7 @@
 -- defaults", and orders 1 and 2. A value is read in three steps, as the paper's two refusals ask: its form, its range, its effect;
 -- io.max asks for room before the last.
 -- What is particular to a controller is `piece`, its own piece of the settings. Assumes nothing.
-use Rattle.std.specs.Prelude.{ℕ, suc, ◌*◌, ◌/◌, ◌≤◌, ◌<◌, Bool, true, ◌&&◌, List, [], ◌∷◌, ◌++◌, map, ◌≡◌, leb, length}
-use Rattle.std.proofs.Math.Option.{Option, none, some}
+use Rattle.std.specs.Prelude.{ℕ, suc, ◌*◌, ◌/◌, ◌≤◌, ◌<◌, Bool, true, ◌&&◌, List, [], ◌∷◌, ◌++◌, map, ◌≡◌, leb, length, Option, Some, None}
 use Rattle.model.specs.Functions.{pick, mapped, All}
 use Rattle.model.specs.Sizes.{page_bytes, most_devices}
 use Rattle.model.specs.Devices.{device_of, major_of, minor_of, pairs_of, DeviceLimits, after_line, Table}
@@ -18,7 +17,6 @@ use Rattle.model.specs.declared.Limit.{Limit}
 use Rattle.model.specs.declared.Limit.TheVariants.{NoLimit, Figure}
 use Rattle.model.specs.declared.Controller.{Controller}
 use Rattle.model.specs.declared.Controller.TheVariants.{Cpu, Io, Memory, Pids}
-use Rattle.model.specs.declared.Pair.TheVariants.{Given}
 use Rattle.model.specs.declared.Setting.{Setting}
 use Rattle.model.specs.declared.Setting.TheVariants.{CpuWeight, CpuMax, IoMax, Max}
 use Rattle.model.specs.declared.SettingValue.{SettingValue}
@@ -33,15 +31,15 @@ setting_controller (Max r) = controller_of r
 -- The form of a value: "Settings take one word, cpu.max one or two."
 -- a quota and a period, both well formed
 abbrev pub bandwidth_of : Option Limit → Option ℕ → Option SettingValue
-bandwidth_of none p = none
-bandwidth_of (some q) none = none
-bandwidth_of (some q) (some p) = some (Bandwidth q p)
+bandwidth_of None p = None
+bandwidth_of (Some q) None = None
+bandwidth_of (Some q) (Some p) = Some (Bandwidth q p)
 
 abbrev pub bandwidth_words : List (List ℕ) → Option SettingValue
-bandwidth_words [] = none
+bandwidth_words [] = None
 bandwidth_words (w ∷ []) = mapped Quota (limit_word w)
 bandwidth_words (w ∷ v ∷ []) = bandwidth_of (limit_word w) (number_word v)
-bandwidth_words (w ∷ v ∷ u ∷ us) = none
+bandwidth_words (w ∷ v ∷ u ∷ us) = None
 
 unfoldable pub value_of : Setting → List (List ℕ) → Option SettingValue
 value_of CpuWeight ws = mapped Weight (one_word number_word ws)
@@ -102,7 +100,7 @@ has_room s v = leb (length (assign v s).io) most_devices
 
 -- What a reader sees of a setting: its values, one a line, and each as text.
 abbrev pub shown_device : DeviceLimits → SettingValue
-shown_device x = Device (major_of x.device) (minor_of x.device) (pairs_of (λ k. Given (x.limit k)))
+shown_device x = Device (major_of x.device) (minor_of x.device) (pairs_of (λ k. Some (x.limit k)))
 
 unfoldable pub shown : Setting → Settings → List SettingValue
 shown CpuWeight s = Weight s.cpu.weight ∷ []

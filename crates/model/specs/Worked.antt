@@ -2,9 +2,8 @@
 -- must get, from the bytes of the lines to the bytes of the reply buffer; and what the book of demand 3 keeps in P1 to P4.
 -- proofs/Worked.antt shows that all hold.
 -- Assumes nothing.
-use Rattle.std.specs.Prelude.{ℕ, Bool, true, false, ◌&&◌, List, [], ◌∷◌, ◌++◌, map, eqb, length, take}
+use Rattle.std.specs.Prelude.{ℕ, Bool, true, false, ◌&&◌, List, [], ◌∷◌, ◌++◌, map, eqb, length, take, Option, Some, None}
 use Prim.Native.String.{String}
-use Rattle.std.proofs.Math.Option.{Option, none, some}
 use Rattle.model.specs.Tree.{Tree}
 use Rattle.model.specs.Text.{bytes, same_bytes}
 use Rattle.model.specs.Calls.{Call, make, remove, hand_over, write_procs, write_control, write_setting, admit, exit, charge, release, read, membership}
@@ -27,17 +26,17 @@ exchange c n g k l b = record { call = c; expected = record { number = n; group 
 
 -- success, or a number, with nothing to tell
 abbrev pub succeeds : Call → Exchange
-succeeds c = exchange c 0 none 0 0 []
+succeeds c = exchange c 0 None 0 0 []
 
 abbrev pub refuses : Call → ℕ → Exchange
-refuses c n = exchange c n none 0 0 []
+refuses c n = exchange c n None 0 0 []
 
 -- a charge or a fork that found room, and one that did not
 abbrev pub granted : Call → ℕ → Exchange
-granted c k = exchange c 0 none k 0 []
+granted c k = exchange c 0 None k 0 []
 
 abbrev pub stopped : Call → ℕ → ℕ → ℕ → Exchange
-stopped c n g k = exchange c n (some g) k 0 []
+stopped c n g k = exchange c n (Some g) k 0 []
 
 -- a text delivered into a buffer that is four bytes longer
 abbrev pub sentinels : List ℕ
@@ -49,11 +48,11 @@ blank_bytes (b ∷ bs) = 0 ∷ blank_bytes bs
 
 abbrev pub reads : ℕ → String → String → Exchange
 reads g file text =
-    exchange (read g (bytes file) (blank_bytes (bytes text) ++ sentinels)) 0 none 0 (length (bytes text)) (bytes text ++ sentinels)
+    exchange (read g (bytes file) (blank_bytes (bytes text) ++ sentinels)) 0 None 0 (length (bytes text)) (bytes text ++ sentinels)
 
 abbrev pub belongs : ℕ → String → Exchange
 belongs p text =
-    exchange (membership p (blank_bytes (bytes text) ++ sentinels)) 0 none 0 (length (bytes text)) (bytes text ++ sentinels)
+    exchange (membership p (blank_bytes (bytes text) ++ sentinels)) 0 None 0 (length (bytes text)) (bytes text ++ sentinels)
 
 -- lines as text
 abbrev pub setting : ℕ → ℕ → String → String → Call
@@ -74,10 +73,10 @@ abbrev pub evening : ℕ → List Exchange → Evening
 evening m exchanges = record { machine = m; exchanges = exchanges }
 
 abbrev pub same_option : Option ℕ → Option ℕ → Bool
-same_option none none = true
-same_option none (some b) = false
-same_option (some a) none = false
-same_option (some a) (some b) = eqb a b
+same_option None None = true
+same_option None (Some b) = false
+same_option (Some a) None = false
+same_option (Some a) (Some b) = eqb a b
 
 abbrev pub same_reply : Reply → Reply → Bool
 same_reply a b =

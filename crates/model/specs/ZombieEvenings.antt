@@ -1,9 +1,8 @@
 -- A fifth table of evenings, of order 5: what a zombie's number and the number of a removed group answer in every call, and that the
 -- earlier of two refusals wins; what a zombie does not count for; which numbers a collect frees; and its membership line. P5 of document
 -- 01 goes on to hold, in Worked.antt, where 5 is a zombie when 2 is removed. Assumes nothing.
-use Rattle.std.specs.Prelude.{ℕ, List, [], ◌∷◌, ◌++◌, map, reverse, length, drop, replicate}
+use Rattle.std.specs.Prelude.{ℕ, List, [], ◌∷◌, ◌++◌, map, reverse, length, drop, replicate, None}
 use Prim.Native.String.{String}
-use Rattle.std.proofs.Math.Option.{none}
 use Rattle.model.specs.Sizes.{longest_membership}
 use Rattle.model.specs.Text.{bytes}
 use Rattle.model.specs.Calls.{make, remove, hand_over, write_procs, admit, fork, exit, collect, charge, release, membership}
@@ -15,10 +14,10 @@ use Rattle.model.specs.Outcomes.{fills, absent}
 abbrev pub fills_line : ℕ → String → Exchange
 fills_line p line =
     let n : ℕ = length (bytes line) in
-    exchange (membership p (replicate n 0)) 0 none 0 n (bytes line)
+    exchange (membership p (replicate n 0)) 0 None 0 n (bytes line)
 
 abbrev pub overflows_line : ℕ → ℕ → Exchange
-overflows_line p n = exchange (membership p (replicate n 1)) 28 none 0 0 (replicate n 1)
+overflows_line p n = exchange (membership p (replicate n 1)) 28 None 0 0 (replicate n 1)
 
 -- Collect: 3, for a live process, for a free number and for numbers out of range, and a second time. It is of one zombie.
 abbrev pub collecting : Evening
@@ -205,7 +204,7 @@ longest_path =
     (all_succeed (descent 0 deep_chain ++ make 0 254 1 ∷ admit 5 0 ∷ procs 0 255 "5" ∷ exit 5 ∷ remove 0 255 ∷ [])
     ++ refuses (make 0 1 255) 17 ∷ refuses (make 0 1 2) 11 ∷ refuses (make 0 255 2) 2 ∷ succeeds (remove 0 1) ∷ []
     ++ all_succeed (map (remove 0) (drop 1 (reverse deep_chain)))
-    ++ overflows_line 5 77 ∷ exchange (membership 5 (replicate longest_membership 1)) 0 none 0 78 (bytes removed_line) ∷ []
+    ++ overflows_line 5 77 ∷ exchange (membership 5 (replicate longest_membership 1)) 0 None 0 78 (bytes removed_line) ∷ []
     ++ refuses (make 0 0 240) 17 ∷ [])
 
 unfoldable pub zombie_evenings : List Evening

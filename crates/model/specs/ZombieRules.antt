@@ -1,6 +1,6 @@
 -- What order 5 promises beyond single calls: that a zombie's membership line stands still from its exit to its collect, whatever
 -- calls come between; and when the number of a removed group is taken. Assumes nothing.
-use Rattle.std.specs.Prelude.{ℕ, suc, true, false, List, ◌∷◌, ◌++◌, ◌≢◌, ◌≡◌, take, drop}
+use Rattle.std.specs.Prelude.{ℕ, suc, true, false, List, ◌∷◌, ◌++◌, ◌≢◌, ◌≡◌, take, drop, Ok, Err}
 use Rattle.model.specs.Checks.{Check, bar, first, Pass}
 use Rattle.model.specs.Tree.{Tree, at, is_live, lives, parents, places, zombies, remains}
 use Rattle.model.specs.Hierarchy.{inside, facts_of}
@@ -13,7 +13,6 @@ use Rattle.model.specs.Effects.{step, run}
 use Rattle.model.specs.Replies.{reply, text_reply}
 use Rattle.model.specs.Lists.{Accepted, Never, Ever}
 use Rattle.model.specs.declared.Errno.TheVariants.{Eexist}
-use Rattle.model.specs.declared.Answer.TheVariants.{Done, Refused}
 
 -- an accepted removal of g, and a collect of p
 pub record Removes (g : ℕ) (t : Tree) (c : Call) : Type 0 where
@@ -34,7 +33,7 @@ pub record LineKept (t : Tree) (p g : ℕ) (cs : List Call) : Type 0 where
   -- and every number on its path is taken all the while
   pub taken : (x : ℕ) → inside (parents t) x g ≡ true → group_taken (run (step t (exit p)) cs) x ≡ true
   pub answered : (buffer : List ℕ) → fits (membership_line (run (step t (exit p)) cs) p) buffer ≡ true
-      → reply (run (step t (exit p)) cs) (membership p buffer) ≡ text_reply Done (membership_line (run (step t (exit p)) cs) p) buffer
+      → reply (run (step t (exit p)) cs) (membership p buffer) ≡ text_reply (Ok tt) (membership_line (run (step t (exit p)) cs) p) buffer
 
 -- from an exit to its collect, whatever calls come between
 abbrev pub LineStands : Tree → Type 0
@@ -67,6 +66,6 @@ pub record Taken (t : Tree) : Type 0 where
   pub asked : (user parent new : ℕ)
       → checks (facts_of t) (make user parent new) ≡ before_taken t user parent new ++ (bar (group_taken t new) Eexist ∷ after_taken t user parent new)
   pub refused : (user parent new : ℕ) → Pass (before_taken t user parent new) → group_taken t new ≡ true
-      → verdict t (make user parent new) ≡ Refused Eexist
+      → verdict t (make user parent new) ≡ Err Eexist
   pub decided : (user parent new : ℕ) → group_taken t new ≡ false
       → verdict t (make user parent new) ≡ first (before_taken t user parent new ++ after_taken t user parent new)

@@ -1,5 +1,6 @@
 -- Collect: the removed groups on the zombie's path are passed from the lowest up, each with a zombie less, and nothing is left of one that
 -- has none then; the live groups above follow, and then the number is free. Assumes nothing.
+use Rattle.std.specs.Prelude.{Ok}
 use Prim.Native.Nat.{ℕ, ◌+◌, ◌-◌, ◌≤◌, ◌<◌}
 use native.Mathlib.Omega.{arith}
 use mathlib.Core.Bool.{Bool, true, false, not}
@@ -11,15 +12,13 @@ use lib.ListN.{length}
 use borrow.Author.Tests.{eq-eqb, ne_eqb}
 use Rattle.model.specs.Functions.{pick, upd}
 use Rattle.model.specs.Sizes.{groups, processes}
-use Rattle.model.specs.Checks.{Pass}
+use Rattle.model.specs.Checks.{Pass, Answer}
 use Rattle.model.specs.Tree.{Tree, Place, Remnant, no_remnant, nowhere, at, no_process, with_past, group_of, is_live, lives, parents, depths, places, zombies, remains}
 use Rattle.model.specs.Hierarchy.{inside, standing}
 use Rattle.model.specs.Zombies.{is_zombie, is_removed, remnant_parent, there, path_parents, path_depths, on_path_in}
 use Rattle.model.specs.Calls.{collect, checks, verdict}
 use Rattle.model.specs.Effects.{kept_if, effect}
 use Rattle.model.specs.WellFormed.{Sound, WellFormed}
-use Rattle.model.specs.declared.Resource.TheVariants.{Pages, Processes}
-use Rattle.model.specs.declared.Answer.TheVariants.{Done}
 use Rattle.model.proofs.FunctionLaws.{split, whether, clash, upd_same, upd_other, upd-id, weigh-yes, weigh-no}
 use Rattle.model.proofs.ChainLaws.{inside-self, inside-live, inside-up, inside-cases, inside-trans, inside-level}
 use Rattle.model.proofs.ProcessLaws.{zombie-range}
@@ -33,10 +32,10 @@ use Rattle.tree.specs.Kept.{count_in, Settled, Kept}
 use Rattle.tree.specs.Calling.{Calling}
 use Rattle.tree.specs.declared.sum.Counter.{Counter}
 use Rattle.tree.specs.declared.sum.Counter.TheVariants.{Of, Children, Members, Zombies}
-use Rattle.tree.proofs.AdjustLaws.{counters-apart}
 use Rattle.tree.proofs.KeptLaws.{count_small}
-use Rattle.tree.proofs.CallLaws.{call-done, applied}
+use Rattle.tree.proofs.CallLaws.{applied}
 use Rattle.processes.specs.Zombie.{Ended, Uncounted, collected_tree}
+use Rattle.tree.proofs.AnswerLaws.{accepted}
 
 -- One zombie less in a group, by whether it was the last.
 module _ (xs ys : List ℕ) (g : ℕ) (d : AdjustedAt xs ys Zombies g 0 1) where
@@ -307,18 +306,17 @@ module _ (xs : List ℕ) (p : ℕ) where
               stays c a ne = d.other c ne a ∙ i.other c ne a ∙ k.kept.sums c a
 
               sums-now : (c : Counter) (a : ℕ) → sum_in zs c a ≡ count_in (collected_tree t p) c a
-              sums-now (Of Pages) a = stays (Of Pages) a (counters-apart (Of Pages) Zombies (λ e. omega arith))
-              sums-now (Of Processes) a = stays (Of Processes) a (counters-apart (Of Processes) Zombies (λ e. omega arith))
-              sums-now Children a = stays Children a (counters-apart Children Zombies (λ e. omega arith))
-              sums-now Members a = stays Members a (counters-apart Members Zombies (λ e. omega arith))
+              sums-now (Of r) a = stays (Of r) a (λ e. cc)
+              sums-now Children a = stays Children a (λ e. cc)
+              sums-now Members a = stays Members a (λ e. cc)
               sums-now Zombies a = zombies-now a ∙ sym (zombies-after-collect t w p k.zombie a)
 
--- A collect that the check accepts.
-module _ (xs : List ℕ) (k : Kept xs) (p : ℕ) (v : verdict (view xs) (collect p) ≡ Done) where
+-- A collect that the check lets through.
+module _ (xs : List ℕ) (k : Kept xs) (p : ℕ) (v : ◌≡◌ {A = Answer} (Ok tt) (verdict (view xs) (collect p))) where
   pub collect-ended : Ended xs p
   unfolding checks Pass
-  collect-ended = record { kept = k; zombie = (passed (view xs) (collect p) v).0 }
+  collect-ended = record { kept = k; zombie = (passed (view xs) (collect p) (sym v)).0 }
 
-  pub collect-done : (ys : List ℕ) → Settled ys (collected_tree (view xs) p) → Calling xs ys (collect p) (verdict (view xs) (collect p)) Done
+  pub collect-done : (ys : List ℕ) → Settled ys (collected_tree (view xs) p) → Calling xs ys (collect p) (verdict (view xs) (collect p)) (Ok tt)
   unfolding effect
-  collect-done ys d = call-done xs k (collect p) v ys _ _ (applied xs k (collect p) v ys d) (sym v)
+  collect-done ys d = accepted xs (collect p) k ys v (applied xs k (collect p) (sym v) ys d)

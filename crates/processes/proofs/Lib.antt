@@ -1,6 +1,6 @@
 pub mod PlaceLaws
-pub mod MoveLaws
 pub mod BirthLaws
 pub mod ExitLaws
 pub mod CollectLaws
+pub mod MoveLaws
 pub mod MigrationLaws

@@ -1,9 +1,11 @@
 -- A process that moves: below the lowest group on both chains the sums have one less along the one and one more along the other, the two
 -- groups a member less and more, and then the place is stored. Assumes nothing.
+use Rattle.std.proofs.lemmas.Bool.Decides.{nat_tests}
 use Prim.Native.Nat.{ℕ, ◌+◌, ◌-◌, ◌≤◌, ◌<◌}
 use native.Mathlib.Omega.{arith}
-use mathlib.Core.Bool.{Bool, true, false}
+use mathlib.Core.Bool.{Bool, true, false, not}
 use mathlib.Core.List.{List}
+use mathlib.Core.Logic.{◌≢◌}
 use mathlib.Core.Path.{◌≡◌, refl, ap, sym, ◌∙◌, subst}
 use lib.Dec.{eqb}
 use Rattle.model.specs.Functions.{pick, weigh}
@@ -26,7 +28,14 @@ use Rattle.tree.proofs.AdjustLaws.{sum-adjusted-at, Rising}
 use Rattle.tree.proofs.KeptLaws.{kept_low, countable, adjustable}
 use Rattle.tree.proofs.WalkLaws.{bottom-of}
 use Rattle.processes.specs.Place.{Migratable, Moved}
-use Rattle.processes.proofs.PlaceLaws.{counted, Recounted, Mustered, mustered-more, mustered-less, mustered-then, members-apart, still-countable, seated, standing-low, standing-inside, member-standing, leave-adjustable}
+use Rattle.processes.proofs.PlaceLaws.{counted, Recounted, Mustered, mustered-more, mustered-less, mustered-then, still-countable, seated, standing-low, standing-inside, member-standing, leave-adjustable}
+
+-- what the test of a walk says of the group that it is at
+pub unmet : (g m : ℕ) → true ≡ not (eqb g m) → g ≢ m
+unmet g m h = grind (arith, nat_tests)
+
+pub met : (g m : ℕ) → false ≡ not (eqb g m) → g ≡ m
+met g m h = grind (arith, nat_tests)
 
 -- where something is taken away there is no more than before
 not_more : (b : Bool) (s m : ℕ) → pick b (s + 0 - m) s ≤ s
@@ -132,7 +141,7 @@ module _ {xs : List ℕ} {p : ℕ} {source target : Chain} {m : ℕ} (h : Migrat
 
       -- no member is counted otherwise yet
       members-still : (a : ℕ) → sum_in zs Members a ≡ sum_in xs Members a
-      members-still a = e.other Members members-apart a ∙ d.other Members members-apart a
+      members-still a = e.other Members (λ x. cc) a ∙ d.other Members (λ x. cc) a
 
       pub move-less : (m : ℕ) → m ≤ 1 → Countable zs Members (bottom source) 0 m
       move-less m few = still-countable (member-standing xs p h.moving.from (bottom source) m source-home few) e.long (members-still (bottom source))
@@ -169,11 +178,10 @@ module _ {xs : List ℕ} {p : ℕ} {source target : Chain} {m : ℕ} (h : Migrat
             kept_low h.moving.to,
           )
 
-          pub moved : (ws : List ℕ) (user : ℕ) → user ≡ ((view vs).process p).user
+          pub moved : (ws : List ℕ) (user : ℕ) → user ≡ ((view zs).process p).user
               → Wrote vs ws (at_process (view vs) p (record { place = at (bottom target); user = user })) → Moved xs ws p (bottom target)
           moved ws user q w =
-              let same : user ≡ ((view xs).process p).user =
-              q ∙ ap (λ (t : Tree). (t.process p).user) (j.tree ∙ i.tree ∙ e.tree ∙ d.tree) in
+              let same : user ≡ ((view xs).process p).user = q ∙ ap (λ (t : Tree). (t.process p).user) (e.tree ∙ d.tree) in
               let was : places (view xs) p ≡ at (bottom source) = place-live (places (view xs) p) h.moving.from.live ∙ ap at (sym source-home) in
               let mustered : Mustered zs vs (at (bottom source)) (at (bottom target)) =
               mustered-then (mustered-less zs us (bottom source) (move-less 1 (omega arith)) i) (mustered-more us vs (bottom target) j) in

@@ -1,6 +1,7 @@
 -- A process's place, the running sums above it and the members of its group, changed together: the sums are counted anew above one group
 -- or two, the members there, then the place is stored, and every count is what it counts. Who comes and who goes; who moves is in
 -- MoveLaws.antt. Assumes nothing.
+use Rattle.std.specs.Prelude.{Ok}
 use Prim.Native.Nat.{ℕ, ◌+◌, ◌≤◌, ◌<◌}
 use native.Mathlib.Omega.{arith}
 use mathlib.Core.Bool.{true, false}
@@ -20,7 +21,6 @@ use Rattle.model.specs.WellFormed.{Sound}
 use Rattle.model.specs.Calls.{Call, verdict}
 use Rattle.model.specs.Effects.{effect}
 use Rattle.model.specs.declared.Resource.TheVariants.{Pages, Processes}
-use Rattle.model.specs.declared.Answer.TheVariants.{Done}
 use Rattle.model.proofs.FunctionLaws.{upd-map, weigh-yes, weigh-no, weigh-zero}
 use Rattle.model.proofs.AmountLaws.{place-live, place-free, standing-change, population-change}
 use Rattle.model.proofs.ZombieLaws.{untaken-process, path_inside}
@@ -32,7 +32,7 @@ use Rattle.tree.specs.Kept.{members, count_in, Settled, Kept}
 use Rattle.tree.specs.Calling.{Applied}
 use Rattle.tree.specs.declared.sum.Counter.{Counter}
 use Rattle.tree.specs.declared.sum.Counter.TheVariants.{Of, Children, Members, Zombies}
-use Rattle.tree.proofs.AdjustLaws.{counters-apart, sum-adjusted-at}
+use Rattle.tree.proofs.AdjustLaws.{sum-adjusted-at}
 use Rattle.tree.proofs.CountLaws.{members-change, member-counted}
 use Rattle.tree.proofs.KeptLaws.{kept_low, countable, adjustable}
 use Rattle.tree.proofs.CallLaws.{applied-as}
@@ -133,13 +133,6 @@ mustered-then d e =
       spare = λ s. e.spare (d.spare s);
     }
 
--- members are counted apart from processes inside
-pub members-apart : Members ≢ Of Processes
-members-apart = counters-apart Members (Of Processes) (λ e. omega arith)
-
-processes-apart : Of Processes ≢ Members
-processes-apart = counters-apart (Of Processes) Members (λ e. omega arith)
-
 -- what can be adjusted along a chain still can
 pub still-adjustable : {xs ys : List ℕ} {c : Counter} {g n m : ℕ} → Adjustable xs c g n m → length ys ≡ tree_words → view ys ≡ view xs
     → ((a : ℕ) → sum_in ys c a ≡ sum_in xs c a) → Adjustable ys c g n m
@@ -157,10 +150,6 @@ pub still-countable : {xs ys : List ℕ} {g n m : ℕ} → Countable xs Members 
     → Countable ys Members g n m
 still-countable q l e = record { long = l; low = q.low; room = rw e q.room; enough = rw e q.enough }
 
--- zombies are counted apart from both
-pub zombies-apart : (Zombies ≢ Of Processes) × (Zombies ≢ Members)
-zombies-apart = (counters-apart Zombies (Of Processes) (λ e. omega arith), counters-apart Zombies Members (λ e. omega arith))
-
 -- what counts live processes counts them where p stands then
 module _ (xs ys us : List ℕ) (k : Kept xs) (p : ℕ) (low : p < processes) (v : Process) (d : Recounted xs ys (places (view xs) p) v.place)
     (m : Mustered ys us (places (view xs) p) v.place) where
@@ -173,11 +162,9 @@ module _ (xs ys us : List ℕ) (k : Kept xs) (p : ℕ) (low : p < processes) (v 
   after = sym (upd-map (λ (x : Process). x.place) (view xs).process p v)
 
   pub counted-after : (c : Counter) (a : ℕ) → sum_in us c a ≡ count_in (at_process (view xs) p v) c a
-  counted-after (Of Pages) a =
-      stays (Of Pages) (counters-apart (Of Pages) (Of Processes) (λ e. omega arith)) (counters-apart (Of Pages) Members (λ e. omega arith)) a
-  counted-after Children a =
-      stays Children (counters-apart Children (Of Processes) (λ e. omega arith)) (counters-apart Children Members (λ e. omega arith)) a
-  counted-after Zombies a = stays Zombies zombies-apart.0 zombies-apart.1 a
+  counted-after (Of Pages) a = stays (Of Pages) (λ e. cc) (λ e. cc) a
+  counted-after Children a = stays Children (λ e. cc) (λ e. cc) a
+  counted-after Zombies a = stays Zombies (λ e. cc) (λ e. cc) a
   counted-after (Of Processes) a =
       let u : population (cores (view xs)) (upd (places (view xs)) p v.place) a ≡ sum_in ys (Of Processes) a =
       omega (
@@ -186,14 +173,14 @@ module _ (xs ys us : List ℕ) (k : Kept xs) (p : ℕ) (low : p < processes) (v 
         d.processes a,
         k.sums (Of Processes) a,
       ) in
-      m.other (Of Processes) processes-apart a ∙ sym u ∙ ap (λ (pl : ℕ → Place). population (cores (view xs)) pl a) after
+      m.other (Of Processes) (λ e. cc) a ∙ sym u ∙ ap (λ (pl : ℕ → Place). population (cores (view xs)) pl a) after
   counted-after Members a =
       let u : members (upd (places (view xs)) p v.place) a ≡ sum_in us Members a =
       omega (
         arith,
         members-change (places (view xs)) p v.place a low,
         m.members a,
-        d.other Members members-apart a,
+        d.other Members (λ e. cc) a,
         k.sums Members a,
       ) in
       sym u ∙ ap (λ (pl : ℕ → Place). members pl a) after
@@ -216,7 +203,7 @@ module _ (xs : List ℕ) (p g : ℕ) (h : Vacant xs p g) where
   pub enter-countable : (ys : List ℕ) → Adjusted xs ys (Of Processes) g 1 0 → (n : ℕ) → n ≤ 1 → Countable ys Members g n 0
   enter-countable ys d n few =
       still-countable (countable xs h.home.kept g h.home.live Members n 0 (omega arith) (omega arith)) d.long
-      (d.other Members members-apart g)
+      (d.other Members (λ e. cc) g)
 
   -- neither live nor a zombie
   was_free : (is_live (places (view xs) p) ≡ false) × (zombies (view xs) p ≡ nowhere)
@@ -279,7 +266,7 @@ module _ (xs : List ℕ) (p : ℕ) (h : Standing xs p) where
 
   pub leave-countable : (ys : List ℕ) (g m : ℕ) → g ≡ process_group (view xs) p → Adjusted xs ys (Of Processes) g 0 1 → m ≤ 1
       → Countable ys Members g 0 m
-  leave-countable ys g m e d few = still-countable (member-standing g m e few) d.long (d.other Members members-apart g)
+  leave-countable ys g m e d few = still-countable (member-standing g m e few) d.long (d.other Members (λ e. cc) g)
 
   -- and a zombie more along its chain, where the live one was taken off
   module _ (ys us : List ℕ) (g : ℕ) (e : g ≡ process_group (view xs) p) (d : Adjusted xs ys (Of Processes) g 0 1) (j : AdjustedAt ys us Members g 0 1) where
@@ -293,7 +280,7 @@ module _ (xs : List ℕ) (p : ℕ) (h : Standing xs p) where
     tree-still = j.tree ∙ d.tree
 
     zombies-still : (a : ℕ) → sum_in us Zombies a ≡ sum_in xs Zombies a
-    zombies-still a = j.other Zombies zombies-apart.1 a ∙ d.other Zombies zombies-apart.0 a
+    zombies-still a = j.other Zombies (λ e. cc) a ∙ d.other Zombies (λ e. cc) a
 
     pub ended-adjustable : (n : ℕ) → n ≤ 1 → Adjustable us Zombies g n 0
     ended-adjustable n few =
@@ -341,14 +328,13 @@ module _ (xs : List ℕ) (p : ℕ) (h : Standing xs p) where
               (rw was (mustered-less ys us g (leave-countable ys g 1 e d (omega arith)) j)) c a
 
           sums-after : (c : Counter) (a : ℕ) → sum_in vs c a ≡ count_in (ended_tree (view xs) p) c a
-          sums-after (Of Pages) a = live-after (Of Pages) a (counters-apart (Of Pages) Zombies (λ e. omega arith))
-          sums-after (Of Processes) a = live-after (Of Processes) a (counters-apart (Of Processes) Zombies (λ e. omega arith))
-          sums-after Children a = live-after Children a (counters-apart Children Zombies (λ e. omega arith))
-          sums-after Members a = live-after Members a (counters-apart Members Zombies (λ e. omega arith))
+          sums-after (Of r) a = live-after (Of r) a (λ e. cc)
+          sums-after Children a = live-after Children a (λ e. cc)
+          sums-after Members a = live-after Members a (λ e. cc)
           sums-after Zombies a = zombies-more a
 
 -- An accepted call whose effect is such a change.
-pub applied-seated : (xs ys : List ℕ) (c : Call) (p : ℕ) (v : Process) → Kept xs → verdict (view xs) c ≡ Done → Seated xs ys p v
+pub applied-seated : (xs ys : List ℕ) (c : Call) (p : ℕ) (v : Process) → Kept xs → verdict (view xs) c ≡ (Ok tt) → Seated xs ys p v
     → effect (view xs) c ≡ at_process (view xs) p v → Applied xs ys c
 applied-seated xs ys c p v k e d f =
     applied-as xs k c e ys (at_process (view xs) p v) f d

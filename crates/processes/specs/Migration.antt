@@ -1,15 +1,15 @@
 -- The checks of a write to cgroup.procs by their subject, in the order of model's list: the group, the line, the move. Document 01,
 -- "Write cgroup.procs". Assumes nothing.
-use Rattle.std.specs.Prelude.{ℕ, Bool, not, ◌&&◌, List, [], ◌∷◌, eqb}
+use Rattle.std.specs.Prelude.{ℕ, Bool, not, ◌&&◌, List, [], ◌∷◌, eqb, Result, Ok, Err}
 use Rattle.model.specs.Functions.{known}
-use Rattle.model.specs.Checks.{Check, bar, need}
+use Rattle.model.specs.Checks.{Check, bar, need, Answer}
 use Rattle.model.specs.Tree.{Tree, is_live, lives, sets, places}
 use Rattle.model.specs.Text.{too_long}
 use Rattle.model.specs.Control.{any_controller}
 use Rattle.model.specs.Rules.{no_group_number, no_process_number, may_write, may_move, number_line, line_process}
+use Rattle.model.specs.declared.ProcessId.{ProcessId}
+use Rattle.model.specs.declared.Errno.{Errno}
 use Rattle.model.specs.declared.Errno.TheVariants.{Enoent, Esrch, Eacces, Ebusy, Einval}
-use Rattle.model.specs.declared.Answer.{Answer}
-use Rattle.processes.specs.declared.migration.Named.{Named}
 
 unfoldable pub group_checks : Tree → ℕ → ℕ → List Check
 group_checks t user g =
@@ -43,6 +43,6 @@ move_checks t user p g =
     ∷ []
 
 -- the process p, or the refusal
-abbrev pub named_by : Answer → ℕ → Named
-named_by Answer.Done p = Named.Process (record { 0 = p })
-named_by (Answer.Refused e) p = Named.Refused e
+abbrev pub named_by : Answer → ℕ → Result ProcessId Errno
+named_by (Ok tt) p = Ok (record { 0 = p })
+named_by (Err e) p = Err e

@@ -8,7 +8,7 @@ ghost use Rattle.tree.specs.Calling.{Called};
 ghost use Rattle.tree.specs.declared.sum.Counter.TheVariants.{Zombies};
 ghost use Rattle.processes.specs.Zombie.{Ended, Uncounted, collected_tree};
 
-use model::{Answer, Errno, GroupId, ProcessId};
+use model::{Errno, GroupId, ProcessId};
 use tree::counter::{adjust, adjust_up};
 use tree::group::is_live;
 use tree::layout::{PROCESSES, Tree};
@@ -44,28 +44,23 @@ fn forget(tree: &mut Tree, process: ProcessId)
 }
 
 // 3 no zombie.
-fn vet_collect(tree: &Tree, process: ProcessId) -> Answer
+#[tactic(auto, using(std::proofs::lemmas::Bool::Decides::nat_tests), unfolding(model::specs::Checks::first, model::specs::Calls::verdict, model::specs::Calls::checks))]
+fn vet_collect(tree: &Tree, process: ProcessId) -> Result<(), Errno>
     requires { Kept tree.now }
     ensures { result ≡ verdict (view tree.now) (collect process.0) }
 {
-    if PROCESSES <= process.0 {
-        return Answer::Refused(Errno::Esrch);
+    if PROCESSES <= process.0 || !is_zombie(tree, process) {
+        return Err(Errno::Esrch);
     }
-    if !is_zombie(tree, process) {
-        return Answer::Refused(Errno::Esrch);
-    }
-    Answer::Done
+    Ok(())
 }
 
 // The process's number is free afterwards.
-pub fn collect(tree: &mut Tree, process: ProcessId) -> Answer
+pub fn collect(tree: &mut Tree, process: ProcessId) -> Result<(), Errno>
     requires { Kept tree.old }
     ensures { Called tree.old tree.new (collect process.0) result }
 {
-    let vetted = vet_collect(tree, process);
-    let Answer::Done = vetted else {
-        return vetted;
-    };
+    vet_collect(tree, process)?;
     forget(tree, process);
-    Answer::Done
+    Ok(())
 }

@@ -2,16 +2,13 @@
 use Prim.Native.Nat.{ℕ}
 use mathlib.Core.List.{List, [], ◌∷◌}
 use mathlib.Core.Path.{◌≡◌, refl, ap, ap₂, sym, ◌∙◌}
-use Rattle.model.specs.Checks.{answer_number}
+use Rattle.model.specs.Checks.{answer_number, Answer, ReadAnswer, RoomAnswer}
 use Rattle.model.specs.Tree.{Tree}
 use Rattle.model.specs.Hierarchy.{facts_of}
 use Rattle.model.specs.Calls.{Call, read, membership, verdict}
 use Rattle.model.specs.Effects.{effect, step}
-use Rattle.model.specs.Replies.{Reply, Asks, for_charge, for_fork, asked_answer, room_reply, room_number, room_group, room_count, read_number, read_length, reply, reply_by}
+use Rattle.model.specs.Replies.{Reply, Asks, for_charge, for_fork, asked_answer, room_reply, room_number, room_group, room_count, read_length, reply, reply_by}
 use Rattle.model.specs.declared.Resource.{Resource}
-use Rattle.model.specs.declared.Answer.{Answer}
-use Rattle.model.specs.declared.RoomAnswer.{RoomAnswer}
-use Rattle.model.specs.declared.ReadAnswer.{ReadAnswer}
 use Rattle.model.proofs.Steps.{step-accepted, step-refused, by-verdict}
 use Rattle.model.proofs.Books.{reply-number}
 use Rattle.tree.specs.Layout.{view}
@@ -52,18 +49,18 @@ quiet {xs} {c} k e f = record { answer = f; tree = quiet_step (view xs) c e; kep
 
 -- texts
 module _ {xs : List ℕ} {g : ℕ} {file old new : List ℕ} {a : ReadAnswer} (r : Delivering xs (read g file old) a new) where
-  pub read_number_lem : {n : ℕ} → Kept xs → n ≡ read_number a → Answered xs xs (read g file old) n
+  pub read-number : {n : ℕ} → Kept xs → n ≡ answer_number a → Answered xs xs (read g file old) n
   unfolding effect reply reply_by verdict
-  read_number_lem k e = quiet k refl (e ∙ ap read_number r.answer)
+  read-number k e = quiet k refl (e ∙ ap answer_number r.answer)
 
   pub read_told : {k : ℕ} → k ≡ read_length a → Told (reply (view xs) (read g file old)) (k ∷ []) new
   unfolding reply reply_by verdict
   read_told f = record { size = ap (λ x. x ∷ []) (f ∙ ap read_length r.answer); buffer = r.buffer }
 
 module _ {xs : List ℕ} {p : ℕ} {old new : List ℕ} {a : ReadAnswer} (r : Delivering xs (membership p old) a new) where
-  pub membership-number : {n : ℕ} → Kept xs → n ≡ read_number a → Answered xs xs (membership p old) n
+  pub membership-number : {n : ℕ} → Kept xs → n ≡ answer_number a → Answered xs xs (membership p old) n
   unfolding effect reply reply_by verdict
-  membership-number k e = quiet k refl (e ∙ ap read_number r.answer)
+  membership-number k e = quiet k refl (e ∙ ap answer_number r.answer)
 
   pub membership-told : {k : ℕ} → k ≡ read_length a → Told (reply (view xs) (membership p old)) (k ∷ []) new
   unfolding reply reply_by verdict

@@ -1,13 +1,12 @@
 -- What the C interface tells: document 01's numbers, and the values beside them as words. Assumes nothing.
-use Rattle.std.specs.Prelude.{ℕ, ◌-◌, ◌^◌, List, [], ◌∷◌, ◌≡◌}
-use Rattle.std.proofs.Math.Option.{Option, none, some}
+use Rattle.std.specs.Prelude.{ℕ, ◌-◌, ◌^◌, List, [], ◌∷◌, ◌≡◌, Option, Some, None}
 use Rattle.model.specs.Control.{Part}
 use Rattle.model.specs.Replies.{Reply}
 
 -- 2^64 - 1 where no group is named
 abbrev pub group_word : Option ℕ → ℕ
-group_word none = 2 ^ 64 - 1
-group_word (some g) = g
+group_word None = 2 ^ 64 - 1
+group_word (Some g) = g
 
 -- what a charge or a fork tells: the first group without room, and the number of groups consulted
 abbrev pub room_words : Reply → List ℕ

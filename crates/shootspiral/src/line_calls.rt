@@ -12,7 +12,7 @@ use control::subtree::write_subtree_control;
 use lines::control::bad_span;
 use model::GroupId;
 use processes::migration::write_procs;
-use text::line::line_end;
+use text::line::text_of;
 use tree::layout::Tree;
 
 pub fn ss_write_procs(tree: &mut Tree, user: u32, group: u64, line: &[u8]) -> u32
@@ -40,7 +40,6 @@ pub fn ss_write_setting(tree: &mut Tree, user: u32, group: u64, file: &[u8], lin
 pub fn ss_first_bad_word(line: &[u8], told: &mut [u64; 2])
     ensures { told.new ≡ part_words (first_bad_word line.now) }
 {
-    let n = line_end(line);
-    let bad = bad_span(&line[..n]);
-    *told = [bad.start as u64, (bad.end - bad.start) as u64];
+    let bad = bad_span(text_of(line));
+    *told = [bad.start as u64, bad.len() as u64];
 }

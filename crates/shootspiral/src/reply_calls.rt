@@ -6,7 +6,7 @@ ghost use Rattle.tree.specs.Kept.{Kept};
 ghost use Rattle.tree.specs.Calling.{Answered};
 ghost use Rattle.shootspiral.specs.Interface.{Told};
 
-use super::number::{read_length, read_number};
+use super::number::{answer_number, read_length};
 use files::reader::{membership, read};
 use model::{GroupId, ProcessId};
 use tree::layout::Tree;
@@ -19,7 +19,7 @@ pub fn ss_read(tree: &Tree, group: u64, file: &[u8], reply: &mut [u8], told: &mu
 {
     let a = read(tree, GroupId(group), file, reply);
     *told = [read_length(a)];
-    read_number(a)
+    answer_number(a)
 }
 
 pub fn ss_membership(tree: &Tree, process: u64, reply: &mut [u8], told: &mut [u64; 1]) -> u32
@@ -30,5 +30,5 @@ pub fn ss_membership(tree: &Tree, process: u64, reply: &mut [u8], told: &mut [u6
 {
     let a = membership(tree, ProcessId(process), reply);
     *told = [read_length(a)];
-    read_number(a)
+    answer_number(a)
 }

@@ -1,82 +1,78 @@
--- Laws of a word cut at the first byte b: the turns of the loop that looks for it, and both parts by where it stands. Assumes nothing.
-use Prim.Native.Nat.{ℕ, suc, ◌+◌, ◌-◌, ◌≤◌, ◌<◌}
-use mathlib.Core.Bool.{Bool, true, false}
-use mathlib.Core.List.{List, [], ◌∷◌}
-use mathlib.Core.Path.{◌≡◌, refl, ap, sym, ◌∙◌}
-use native.Mathlib.Numerals.{add-one}
-use native.Mathlib.Omega.{arith}
-use lib.Dec.{eqb}
-use lib.ListN.{length, get_or, take, drop, length-drop}
-use lib.Seq.{drop-cons, drop-length, take_all, take-nil}
+-- Laws of a text cut at the first byte b: where the byte stands, and both parts. Assumes nothing.
+use Rattle.std.proofs.Common.{ℕ, suc, ◌+◌, ◌-◌, ◌≤◌, ◌<◌, ◌≡◌, ◌≢◌, Bool, true, false, eqb, List, [], ◌∷◌, length, take, drop, Option, refl, ap, ◌∙◌, arith, add-one}
+use Rattle.std.specs.Prelude.{MatchOption}
+use Rattle.std.specs.List.{AllWithin, HoldsAt}
+use Rattle.std.specs.Option.{unwrap_or}
+use Rattle.std.proofs.lemmas.List.{take_rest}
+use Rattle.std.proofs.lemmas.Iterator.{index_from_first}
 use borrow.Author.Tests.{eq-eqb, ne_eqb}
 use Rattle.model.specs.Functions.{pick}
 use Rattle.model.specs.DeviceLines.{before, after}
 
 module _ (b : ℕ) where
-  -- ---- the loop has come to i
+  -- ---- where the byte stands, or the length
 
-  module _ (w : List ℕ) (i : ℕ) (h : i < length w) where
-    pub cut_later : (get_or w i 0 ≡ b → ⊥) → length (before b (drop i w)) ≡ suc (length (before b (drop (i + 1) w)))
-    unfolding before
-    cut_later n = rw (drop-cons w i 0 h, add-one, ne_eqb (get_or w i 0) b n)
-
-    pub cut-here : get_or w i 0 ≡ b → length (before b (drop i w)) ≡ 0
-    unfolding before
-    cut-here e = rw (drop-cons w i 0 h, eq-eqb (get_or w i 0) b e)
-
-  pub cut_out : (w : List ℕ) (i : ℕ) → i ≡ length w → length (before b (drop i w)) ≡ 0
+  here : (x : ℕ) (w : List ℕ) → x ≡ b → length (before b (x ∷ w)) ≡ 0
   unfolding before
-  cut_out w i e = rw (e, drop-length)
+  here x w e = rw (eq-eqb x b e)
 
-  -- ---- the parts
-
-  pub cut_inside : (w : List ℕ) → length (before b w) ≤ length w
+  later : (x : ℕ) (w : List ℕ) → x ≢ b → length (before b (x ∷ w)) ≡ length (before b w) + 1
   unfolding before
-  cut_inside [] = omega arith
-  cut_inside (x ∷ w) = go (eqb x b) (cut_inside w)
+  later x w n = rw (ne_eqb x b n, add-one)
+
+  none : length (before b []) ≡ 0
+  unfolding before
+  none = refl
+
+  pub cut-place : (w : List ℕ) (r : Option ℕ)
+      → MatchOption r (AllWithin (λ x. x ≢ b) w 0 (length w)) (λ i. (i < length w) × HoldsAt (λ x. x ≡ b) w i × AllWithin (λ x. x ≢ b) w 0 i)
+      → length (before b w) ≡ unwrap_or r (length w)
+  cut-place w r f =
+      index_from_first (λ l. length (before b l)) (λ x. x ≡ b) (λ x. x ≢ b) none here later w r f
+
+  pub cut-inside : (w : List ℕ) → length (before b w) ≤ length w
+  unfolding before
+  cut-inside [] = omega arith
+  cut-inside (x ∷ w) = go (eqb x b) (cut-inside w)
     where
       go : (t : Bool) → length (before b w) ≤ length w → length (pick t [] (x ∷ before b w)) ≤ suc (length w)
       go true h = omega arith
       go false h = omega arith
 
-  front : (w : List ℕ) → take (length (before b w)) w ≡ before b w
+  -- ---- the parts
+
+  pub cut-front : (w : List ℕ) → take (length (before b w)) w ≡ before b w
   unfolding before
-  front [] = refl
-  front (x ∷ w) = go (eqb x b) (front w)
+  cut-front [] = refl
+  cut-front (x ∷ w) = go (eqb x b) (cut-front w)
     where
       go : (t : Bool) → take (length (before b w)) w ≡ before b w
           → take (length (pick t [] (x ∷ before b w))) (x ∷ w) ≡ pick t [] (x ∷ before b w)
       go true e = refl
       go false e = ap (λ (l : List ℕ). x ∷ l) e
 
-  rest : (w : List ℕ) → drop (suc (length (before b w))) w ≡ after b w
+  pub cut-rest : (w : List ℕ) → drop 1 (drop (length (before b w)) w) ≡ after b w
   unfolding before after
-  rest [] = refl
-  rest (x ∷ w) = go (eqb x b) (rest w)
+  cut-rest [] = refl
+  cut-rest (x ∷ w) = go (eqb x b) (cut-rest w)
     where
-      go : (t : Bool) → drop (suc (length (before b w))) w ≡ after b w
-          → drop (suc (length (pick t [] (x ∷ before b w)))) (x ∷ w) ≡ pick t w (after b w)
+      go : (t : Bool) → drop 1 (drop (length (before b w)) w) ≡ after b w
+          → drop 1 (drop (length (pick t [] (x ∷ before b w))) (x ∷ w)) ≡ pick t w (after b w)
       go true e = refl
       go false e = e
 
-  nothing-after : (w : List ℕ) → length (before b w) ≡ length w → after b w ≡ []
-  unfolding before after
-  nothing-after [] h = refl
-  nothing-after (x ∷ w) h = go (eqb x b) (nothing-after w) h
-    where
-      go : (t : Bool) → (length (before b w) ≡ length w → after b w ≡ []) → length (pick t [] (x ∷ before b w)) ≡ suc (length w)
-          → pick t w (after b w) ≡ []
-      go true f k = absurd (omega arith)
-      go false f k = f (omega arith)
-
   module _ (w : List ℕ) (n : ℕ) (e : n ≡ length (before b w)) where
-    pub part-front : take n w ≡ before b w
-    part-front = rw e (front w)
+    pub part-before : take n w ≡ before b w
+    part-before = rw e (cut-front w)
 
-    pub part-rest : take (length w - (n + 1)) (drop (n + 1) w) ≡ after b w
-    part-rest =
-        take_all (length w - (n + 1)) (drop (n + 1) w) (omega (arith, length-drop (n + 1) w))
-        ∙ rw (add-one, e) (rest w)
+    module _ (r : List ℕ) (d : r ≡ drop n w) where
+      -- what stands behind the byte, as a slice without its first
+      pub part-after : take (length r - 1) (drop 1 r) ≡ after b w
+      part-after = take_rest r 1 ∙ rw (d, e) (cut-rest w)
 
-    pub part_none : n ≡ length w → take (length w - n) (drop n w) ≡ after b w
-    part_none h = rw (h, drop-length, take-nil, nothing-after w (sym e ∙ h))
+      pub part-none : length r < 1 → r ≡ after b w
+      part-none h = nothing r h ∙ rw (d, e) (cut-rest w)
+        where
+          nothing : (l : List ℕ) → length l < 1 → l ≡ drop 1 l
+          nothing [] h = refl
+          nothing (x ∷ l) h = absurd (omega arith)

@@ -1,70 +1,30 @@
--- Laws of words by the positions of a loop: `leading_word`, `starts`, the next word, and `words` by it. Assumes nothing.
-use Prim.Native.Nat.{ℕ, suc, ◌+◌, ◌-◌, ◌≤◌, ◌<◌}
-use mathlib.Core.Bool.{Bool, true, false}
-use mathlib.Core.List.{List, [], ◌∷◌, map}
-use mathlib.Core.Path.{◌≡◌, refl, ap, sym, ◌∙◌}
-use native.Mathlib.Numerals.{add-one}
-use native.Mathlib.Omega.{arith}
-use lib.Dec.{eqb}
-use lib.ListN.{length, get_or, take, drop, length-drop}
-use lib.Seq.{drop-cons, drop-drop, drop-length}
+-- Laws of words: where the first word of a text begins and ends, the words of a text by the first, and a line that has exactly one.
+-- Assumes nothing.
+use Rattle.std.proofs.Common.{ℕ, zero, suc, ◌≤◌, ◌<◌, ◌≡◌, ◌≢◌, Bool, true, false, eqb, List, [], ◌∷◌, ◌++◌, map, length, get_or, take, drop, Option, Some, None, refl, ap, sym, ◌∙◌, arith, length-drop, drop-cons}
+use Rattle.std.proofs.Math.Seq.{drop-length}
+use Rattle.std.proofs.lemmas.List.{take-append-drop}
+use Rattle.std.specs.Prelude.{MatchOption}
+use Rattle.std.specs.Borrow.{Bor}
+use Rattle.std.specs.Option.{is_some}
+use Rattle.std.specs.List.{AllWithin, HoldsAt}
 use borrow.Author.Tests.{eq-eqb, ne_eqb}
 use Rattle.model.specs.Functions.{pick}
 use Rattle.model.specs.Text.{space, leading_word, starts_in, starts, words}
-use Rattle.text.specs.Line.{spanned, WordEnd, NextWord}
-use Rattle.text.specs.declared.line.Span.{Span}
+use Rattle.model.specs.DeviceLines.{before}
+use Rattle.text.specs.Line.{FirstWord, sole_word}
+use Rattle.text.proofs.CutLaws.{cut-front}
 
--- ---- leading_word
-
-module _ (l : List ℕ) (e : ℕ) (h : e < length l) where
-  pub word_more : (get_or l e 0 ≡ space → ⊥)
-      → length (leading_word (drop e l)) ≡ suc (length (leading_word (drop (e + 1) l)))
-  unfolding leading_word
-  word_more n = rw (drop-cons l e 0 h, add-one, ne_eqb (get_or l e 0) space n)
-
-  pub word-stop : get_or l e 0 ≡ space → length (leading_word (drop e l)) ≡ 0
-  unfolding leading_word
-  word-stop q = rw (drop-cons l e 0 h, eq-eqb (get_or l e 0) space q)
-
-pub word_out : (l : List ℕ) (e : ℕ) → e ≡ length l → length (leading_word (drop e l)) ≡ 0
-unfolding leading_word
-word_out l e p = rw (p, drop-length)
-
-word-prefix : (l : List ℕ) → take (length (leading_word l)) l ≡ leading_word l
-unfolding leading_word
-word-prefix [] = refl
-word-prefix (b ∷ l) = go (eqb b space) (word-prefix l)
-  where
-    go : (t : Bool) → take (length (leading_word l)) l ≡ leading_word l
-        → take (length (pick t [] (b ∷ leading_word l))) (b ∷ l) ≡ pick t [] (b ∷ leading_word l)
-    go true q = refl
-    go false q = ap (λ (z : List ℕ). b ∷ z) q
-
-word-short : (l : List ℕ) → length (leading_word l) ≤ length l
-unfolding leading_word
-word-short [] = omega arith
-word-short (b ∷ l) = go (eqb b space) (word-short l)
-  where
-    go : (t : Bool) → length (leading_word l) ≤ length l → length (pick t [] (b ∷ leading_word l)) ≤ suc (length l)
-    go true q = omega arith
-    go false q = omega arith
-
-pub word-inside : (l : List ℕ) (at : ℕ) → at ≤ length l → at + length (leading_word (drop at l)) ≤ length l
-word-inside l at h = omega (arith, word-short (drop at l), length-drop at l)
-
--- a word ends where no byte of it is left
-pub word-ended : (l : List ℕ) (at e : ℕ)
-    → e + length (leading_word (drop e l)) ≡ at + length (leading_word (drop at l)) → length (leading_word (drop e l)) ≡ 0
-    → WordEnd l at e
-word-ended l at e q z =
-    let n : e - at ≡ length (leading_word (drop at l)) = omega arith in
-    record { end = omega arith; word = rw n (word-prefix (drop at l)) }
+-- a word ends before the first space
+leading-before : (l : List ℕ) → leading_word l ≡ before space l
+unfolding leading_word before
+leading-before [] = refl
+leading-before (b ∷ l) = rw (leading-before l)
 
 -- ---- starts
 
-starts-blank : (b : ℕ) (l : List ℕ) → eqb b space ≡ true → starts l ≡ starts (b ∷ l)
+starts-blank : (b : ℕ) (l : List ℕ) → b ≡ space → starts (b ∷ l) ≡ starts l
 unfolding starts_in
-starts-blank b l e = rw e
+starts-blank b l e = rw (eq-eqb b space e)
 
 -- within a word, the next word is the one after its end
 starts-within : (l : List ℕ) → starts_in true l ≡ starts (drop (length (leading_word l)) l)
@@ -74,69 +34,72 @@ starts-within (b ∷ l) = go (eqb b space) refl (starts-within l)
   where
     go : (t : Bool) → eqb b space ≡ t → starts_in true l ≡ starts (drop (length (leading_word l)) l)
         → pick t (starts l) (starts_in true l) ≡ starts (drop (length (pick t [] (b ∷ leading_word l))) (b ∷ l))
-    go true e q = starts-blank b l e
+    go true e q = rw e
     go false e q = q
 
-starts-cons : (b : ℕ) (l : List ℕ) → eqb b space ≡ false
+starts-cons : (b : ℕ) (l : List ℕ) → b ≢ space
     → starts (b ∷ l) ≡ (b ∷ l) ∷ starts (drop (length (leading_word (b ∷ l))) (b ∷ l))
 unfolding starts_in leading_word
-starts-cons b l e = rw e (ap (λ (z : List (List ℕ)). (b ∷ l) ∷ z) (starts-within l))
+starts-cons b l n = rw (ne_eqb b space n) (ap (λ (z : List (List ℕ)). (b ∷ l) ∷ z) (starts-within l))
 
-module _ (l : List ℕ) (at : ℕ) (h : at < length l) where
-  pub starts-space : get_or l at 0 ≡ space → starts (drop (at + 1) l) ≡ starts (drop at l)
-  unfolding starts_in
-  starts-space q = rw (drop-cons l at 0 h, eq-eqb (get_or l at 0) space q, add-one)
+-- spaces in front of a word are nothing
+starts-skipped : (l : List ℕ) (i : ℕ) → i ≤ length l → AllWithin (λ x. x ≡ space) l 0 i → starts l ≡ starts (drop i l)
+starts-skipped l zero h s = refl
+starts-skipped [] (suc i) h s = refl
+starts-skipped (b ∷ l) (suc i) h s =
+    starts-blank b l (s 0 0 (omega arith) (omega arith))
+    ∙ starts-skipped l i (omega arith) (λ k d m n. s (suc k) d (omega arith) (omega arith))
 
-  pub starts-word : (e : ℕ) → (get_or l at 0 ≡ space → ⊥) → e ≡ at + length (leading_word (drop at l))
-      → starts (drop at l) ≡ drop at l ∷ starts (drop e l)
-  starts-word e n q =
-      rw (q, ← drop-drop (length (leading_word (drop at l))) at l, drop-cons l at 0 h)
-      (starts-cons (get_or l at 0) (drop (suc at) l) (ne_eqb (get_or l at 0) space n))
+-- ---- what the search for the first byte that is no space found
 
-pub starts-out : (l : List ℕ) (at : ℕ) → at ≡ length l → starts (drop at l) ≡ []
+pub no-word : (l : List ℕ) → AllWithin (λ x. x ≡ space) l 0 (length l) → starts l ≡ []
 unfolding starts_in
-starts-out l at p = rw (p, drop-length)
+no-word l s = starts-skipped l (length l) (omega arith) s ∙ rw drop-length
 
--- ---- the next word, where the search from `at` has come to s
+starts-found : (l : List ℕ) (i : ℕ) → i < length l → get_or l i 0 ≢ space
+    → starts (drop i l) ≡ drop i l ∷ starts (drop (length (before space (drop i l))) (drop i l))
+starts-found l i h n =
+    rw (← leading-before, drop-cons l i 0 h) (starts-cons (get_or l i 0) (drop (suc i) l) n)
 
-module _ (l : List ℕ) (at s : ℕ) (a : at ≤ s) (same : starts (drop s l) ≡ starts (drop at l)) where
-  pub next_here : (e : ℕ) → s < length l → (get_or l s 0 ≡ space → ⊥) → WordEnd l s e
-      → NextWord l at (record { start = s; end = e })
-  next_here e h n w =
-      let m = word_more l s h n in
-      let i = word-inside l s (omega arith) in
+module _ (l : List ℕ) (i : ℕ) (h : i < length l) (here : HoldsAt (λ x. x ≢ space) l i) (s : AllWithin (λ x. x ≡ space) l 0 i) where
+  -- the word ends where the text from i on, f, has its first space
+  pub first-word : (f : List ℕ) (n : ℕ) (w r : List ℕ) → f ≡ drop i l → n ≡ length (before space f) → w ≡ take n f → r ≡ drop n f → FirstWord l w r
+  first-word f n w r d m p q =
+      let e : w ++ r ≡ drop i l = rw (p, q, d) (take-append-drop n (drop i l)) in
       record {
-        after = a;
-        inside = record { order = omega (arith, w.end); bound = omega (arith, w.end) };
-        word = w.word;
-        none = λ z. absurd (omega arith);
-        some = λ z. omega (arith, w.end);
-        rest = λ z. sym same ∙ starts-word l s h e n w.end;
+        starts = starts-skipped l i (omega arith) s ∙ rw (e, q, m, d) (starts-found l i h (here 0));
+        word = rw (e, p, m, d) (leading-before (drop i l) ∙ sym (cut-front space (drop i l)));
+        place = i;
+        cut = sym e;
+        long = omega (arith, ap length e, length-drop i l);
       }
 
-  pub next-out : s ≡ length l → NextWord l at (record { start = s; end = s })
-  next-out p =
-      let w = word-ended l s s refl (word_out l s p) in
-      record {
-        after = a;
-        inside = record { order = omega arith; bound = omega arith };
-        word = w.word;
-        none = λ z. sym same ∙ starts-out l s p;
-        some = λ z. absurd (omega arith);
-        rest = λ z. absurd (omega arith);
-      }
+-- ---- the words of a text by the first
 
--- ---- the words from `at` on, by the next word
-
-module _ (l : List ℕ) (at : ℕ) (p : Span) (w : NextWord l at p) where
-  pub words-next : p.start < length l → words (drop at l) ≡ spanned l p ∷ words (drop p.end l)
-  unfolding words
-  words-next h = ap (map leading_word) (w.rest h) ∙ ap (λ (z : List ℕ). z ∷ words (drop p.end l)) (sym w.word)
-
-  pub words-none : p.start ≡ length l → words (drop at l) ≡ []
-  unfolding words
-  words-none h = ap (map leading_word) (w.none h)
-
-pub words-out : (l : List ℕ) (at : ℕ) → at ≡ length l → words (drop at l) ≡ []
+pub words-first : (l w r : List ℕ) → FirstWord l w r → words l ≡ w ∷ words r
 unfolding words
-words-out l at p = ap (map leading_word) (starts-out l at p)
+words-first l w r f = ap (map leading_word) f.starts ∙ ap (λ (z : List ℕ). z ∷ words r) f.word
+
+pub words-none : (l : List ℕ) → starts l ≡ [] → words l ≡ []
+unfolding words
+words-none l e = ap (map leading_word) e
+
+-- ---- a line that has exactly one
+
+pub sole-none : (l : List ℕ) → starts l ≡ [] → sole_word (words l) ≡ None
+sole-none l e = ap sole_word (words-none l e)
+
+-- what `cut_word` answers of a text
+abbrev pub Leads : List ℕ → Option (Bor (List ℕ) × Bor (List ℕ)) → Type 0
+Leads l o = MatchOption o (starts l ≡ []) (λ p. FirstWord l p.0.now p.1.now)
+
+module _ (l w r : List ℕ) (f : FirstWord l w r) where
+  pub sole-alone : (o : Option (Bor (List ℕ) × Bor (List ℕ))) → Leads r o → is_some o ≡ false → sole_word (words l) ≡ Some w
+  sole-alone None e h =
+      ap sole_word (words-first l w r f ∙ ap (λ (z : List (List ℕ)). w ∷ z) (words-none r e))
+  sole-alone (Some p) e h = cc
+
+  pub sole-more : (o : Option (Bor (List ℕ) × Bor (List ℕ))) → Leads r o → is_some o ≡ true → sole_word (words l) ≡ None
+  sole-more None e h = cc
+  sole-more (Some p) g h =
+      ap sole_word (words-first l w r f ∙ ap (λ (z : List (List ℕ)). w ∷ z) (words-first r p.0.now p.1.now g))

@@ -1,29 +1,19 @@
 // Limits as words of a line: "max", or a figure of any size.
 ghost use Rattle.std.specs.Prelude.{◌≡◌};
+ghost use Rattle.model.specs.Functions.{mapped};
 ghost use Rattle.model.specs.Settings.{limit_word};
-ghost use Rattle.text.specs.Limit.{as_limit_word};
+ghost use Rattle.text.specs.Limit.{clipped_limit};
 
-use super::line::is_same;
-use super::number::{Number, parse_number};
+use super::number::parse_number;
 use model::Limit;
 
-// What a word says as a limit.
-#[derive(Clone, Copy)]
-pub enum LimitWord {
-    Of(Limit),
-    Malformed,
-}
-
 // "max", or a number word.
-pub fn parse_limit(word: &[u8]) -> LimitWord
-    ensures { result ≡ as_limit_word (limit_word word.now) }
+pub fn parse_limit(word: &[u8]) -> Option<Limit>
+    ensures { result ≡ mapped clipped_limit (limit_word word.now) }
 {
-    if is_same(word, b"max") {
-        return LimitWord::Of(Limit::NoLimit);
+    if word == b"max".as_slice() {
+        return Some(Limit::NoLimit);
     }
-    let number = parse_number(word);
-    let Number::Figure(n) = number else {
-        return LimitWord::Malformed;
-    };
-    LimitWord::Of(Limit::Figure(n))
+    let n = parse_number(word)?;
+    Some(Limit::Figure(n))
 }

@@ -1,80 +1,115 @@
-// Writing text at a position of a buffer, and the delivery of a text into the caller's buffer.
-// A writer answers the position after its text, and says nothing of the bytes from there on.
-ghost use Rattle.std.specs.Prelude.{◌+◌, ◌≤◌, ◌<◌, [], ◌∷◌, ◌≡◌, length};
+// A text that is being made, in an array of fixed size, and the delivery of a text into the caller's buffer.
+ghost use Rattle.std.specs.Prelude.{ℕ, ◌+◌, ◌≤◌, ◌<◌, List, [], ◌∷◌, ◌++◌, ◌≡◌, eqb, length, take};
 ghost use Rattle.model.specs.Text.{decimal};
 ghost use Rattle.model.specs.Settings.{limit_text};
-ghost use Rattle.text.specs.Write.{Appended, Copied, Delivers};
+ghost use Rattle.text.specs.Write.{Delivers};
 
-use model::{Errno, Limit, ReadAnswer};
+use model::{Errno, Limit};
+use std::marker::Model;
 
-// One byte.
-pub fn put_byte(out: &mut [u8], at: usize, b: u8) -> usize
-    requires { at < length out.old }
-    ensures { Appended out.old at (b ∷ []) out.new result }
-{
-    out[at] = b;
-    at + 1
+// The bytes behind the first `len` are nothing yet.
+#[derive(Drop)]
+pub struct Text<const N: usize> {
+    bytes: [u8; N],
+    len: usize,
 }
 
-// The text at `at`, and nothing else.
-fn copy(out: &mut [u8], at: usize, text: &[u8]) -> usize
-    requires { at + length text.now ≤ length out.old }
-    ensures { Copied out.old at text.now out.new result }
-{
-    let mut i = 0;
-    while i < text.len() {
-        out[at + i] = text[i];
-        i += 1;
+// Clauses see the text.
+impl<const N: usize> Model for Text<N> {
+    ghost Value = { List ℕ };
+
+    ghost view = { λ t. take t.len t.bytes };
+
+    ghost invariant = { λ t. t.len ≤ N };
+}
+
+impl<const N: usize> Text<N> {
+    pub fn new() -> Self
+        ensures { result ≡ [] }
+    {
+        Text {
+            bytes: [0; N],
+            len: 0,
+        }
     }
-    at + i
+
+    // The text so far.
+    pub fn as_slice(&self) -> &[u8]
+        ensures { result.now ≡ self.now }
+    {
+        &self.bytes[..self.len]
+    }
+
+    pub fn is_empty(&self) -> bool
+        ensures { result ≡ eqb (length self.now) 0 }
+    {
+        self.len == 0
+    }
+
+    pub fn push(&mut self, b: u8)
+        requires { length self.old < N }
+        ensures { self.new ≡ self.old ++ b ∷ [] }
+    {
+        self.bytes[self.len] = b;
+        self.len += 1;
+    }
+
+    pub fn push_bytes(&mut self, text: &[u8])
+        requires { length self.old + length text.now ≤ N }
+        ensures { self.new ≡ self.old ++ text.now }
+    {
+        let room = &mut self.bytes[..];
+        let end = self.len + text.len();
+        room[self.len..end].copy_from_slice(text);
+        self.len = end;
+    }
+
+    // The number in decimal, with no zero in front.
+    pub fn push_number(&mut self, n: u64)
+        requires { length self.old + length (decimal n) ≤ N }
+        ensures { self.new ≡ self.old ++ decimal n }
+    {
+        let room = &mut self.bytes[..];
+        self.len += put_number(&mut room[self.len..], n);
+    }
+
+    // "max", or the figure in decimal.
+    pub fn push_limit(&mut self, limit: Limit)
+        requires { length self.old + length (limit_text limit) ≤ N }
+        ensures { self.new ≡ self.old ++ limit_text limit }
+    {
+        let Limit::Figure(n) = limit else {
+            self.push_bytes(b"max");
+            return;
+        };
+        self.push_number(n);
+    }
 }
 
-// A text.
-pub fn put_text(out: &mut [u8], at: usize, text: &[u8]) -> usize
-    requires { at + length text.now ≤ length out.old }
-    ensures { Appended out.old at text.now out.new result }
+// The number in decimal goes to the front, and its length is told.
+fn put_number(out: &mut [u8], n: u64) -> usize
+    requires { length (decimal n) ≤ length out.old }
+    ensures end { result ≡ length (decimal n) }
+    ensures text { take result out.new ≡ decimal n }
 {
-    copy(out, at, text)
-}
-
-fn digit(n: u64) -> u8
-    requires { n < 10 }
-    ensures { result ≡ 48 + n }
-{
-    48 + (n as u8)
-}
-
-// The number in decimal, with no zero in front.
-pub fn put_number(out: &mut [u8], at: usize, n: u64) -> usize
-    requires { at + length (decimal n) ≤ length out.old }
-    ensures { Appended out.old at (decimal n) out.new result }
-{
+    let digit = b'0' + (n % 10) as u8;
     if n < 10 {
-        return put_byte(out, at, digit(n));
+        out[0] = digit;
+        return 1;
     }
-    let last = put_number(out, at, n / 10);
-    put_byte(out, last, digit(n % 10))
-}
-
-// "max", or the figure in decimal.
-pub fn put_limit(out: &mut [u8], at: usize, limit: Limit) -> usize
-    requires { at + length (limit_text limit) ≤ length out.old }
-    ensures { Appended out.old at (limit_text limit) out.new result }
-{
-    let Limit::Figure(n) = limit else {
-        return put_text(out, at, b"max");
-    };
-    put_number(out, at, n)
+    let end = put_number(out, n / 10);
+    out[end] = digit;
+    end + 1
 }
 
 // The text goes to the front of the caller's buffer, and its length is told. Where it does not fit the answer is 28,
 // and the buffer stays as it was.
-pub fn deliver(buf: &mut [u8], text: &[u8]) -> ReadAnswer
+pub fn deliver(buf: &mut [u8], text: &[u8]) -> Result<usize, Errno>
     ensures { Delivers text.now buf.old result buf.new }
 {
     if buf.len() < text.len() {
-        return ReadAnswer::Refused(Errno::Enospc);
+        return Err(Errno::Enospc);
     }
-    let n = copy(buf, 0, text);
-    ReadAnswer::Text(n)
+    buf[..text.len()].copy_from_slice(text);
+    Ok(text.len())
 }

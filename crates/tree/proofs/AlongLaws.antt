@@ -5,7 +5,7 @@ use native.Mathlib.Omega.{arith}
 use mathlib.Core.Bool.{true}
 use mathlib.Core.List.{List}
 use mathlib.Core.Logic.{⊎_elim, ◌≢◌}
-use mathlib.Core.Path.{◌≡◌, ap, sym, ◌∙◌}
+use mathlib.Core.Path.{◌≡◌, refl, ap, sym, ◌∙◌}
 use lib.Dec.{ltb}
 use lib.ListN.{get_or, drop}
 use borrow.Author.Tests.{ltb-true, ltb-false}
@@ -32,8 +32,8 @@ module _ (xs : List ℕ) (k : Counter) (c : Chain) (n m : ℕ) (h : ChainOf (vie
   along-start = record { within = h.whole.some; rising = rising-start xs k (bottom c) n m a; rest = h.groups }
 
   module _ (ys : List ℕ) (j : ℕ) (w : Along xs k c n m ys j) where
-    pub along-countable : Countable ys k (group_at c j) n m
-    along-countable = rising-countable xs k (bottom c) n m a ys (group_at c j) w.rising
+    pub along-countable : (g : ℕ) → g ≡ group_at c j → Countable ys k g n m
+    along-countable g e = rw e (rising-countable xs k (bottom c) n m a ys (group_at c j) w.rising)
 
     -- the groups above this one
     above : j + 1 < c.len → drop (j + 1) (listed c) ≡ chain (parents (view xs)) (parents (view xs) (group_at c j))
@@ -49,9 +49,10 @@ module _ (xs : List ℕ) (k : Counter) (c : Chain) (n m : ℕ) (h : ChainOf (vie
         ap (λ (gs : List ℕ). get_or gs 0 0) (sym (left-more c h.whole (j + 1) l) ∙ above l)
         ∙ first_of a.sound (parents (view xs) (group_at c j)) (a.sound.above (group_at c j) w.rising.live (h.whole.inner j l))
 
-    module _ (zs : List ℕ) (e : AdjustedAt ys zs k (group_at c j) n m) where
+    module _ (zs : List ℕ) (g : ℕ) (same : g ≡ group_at c j) (d : AdjustedAt ys zs k g n m) where
       pub along-next : j + 1 < c.len → Along xs k c n m zs (j + 1)
       along-next l =
+          let e : AdjustedAt ys zs k (group_at c j) n m = rw same at d in
           let up : group_at c (j + 1) ≡ parents (view zs) (group_at c j) =
           next_up l ∙ ap (λ (t : Tree). parents t (group_at c j)) (sym (e.tree ∙ w.rising.tree)) in
           record {
@@ -66,7 +67,7 @@ module _ (xs : List ℕ) (k : Counter) (c : Chain) (n m : ℕ) (h : ChainOf (vie
       at-root = h.whole.last j (omega (arith, w.within))
 
       pub along-root : Countable ys k 0 n m
-      along-root = rw (← at-root) along-countable
+      along-root = along-countable 0 (sym at-root)
 
       pub along-end : (zs : List ℕ) → AdjustedAt ys zs k 0 n m → Adjusted xs zs k (bottom c) n m
       along-end zs e = rising-end xs k (bottom c) n m a ys (group_at c j) w.rising zs (rw at-root e) at-root
@@ -92,12 +93,12 @@ module _ (xs : List ℕ) (k : Counter) (c : Chain) (n m : ℕ) (h : ChainOf (vie
         (λ o. absurd (not_top (h.whole.last j (omega (arith, w.along.within, ltb-false (j + 1) c.len o)))))
 
     pub along-to-countable : Countable ys k (group_at c j) n m
-    along-to-countable = along-countable xs k c n m h d ys j w.along
+    along-to-countable = along-countable xs k c n m h d ys j w.along (group_at c j) refl
 
     pub along-to-next : (zs : List ℕ) → AdjustedAt ys zs k (group_at c j) n m → AlongTo xs k c n m a zs (j + 1)
     along-to-next zs e =
         record {
-          along = along-next xs k c n m h d ys j w.along zs e along-to-more;
+          along = along-next xs k c n m h d ys j w.along zs (group_at c j) refl e along-to-more;
           ahead = rw (next_up xs k c n m h d ys j w.along along-to-more)
               (⊎_elim (λ (e : a ≡ group_at c j). absurd (ne (sym e))) (λ i. i)
               (inside-cases d.sound a (group_at c j) w.along.rising.live not_top w.ahead));

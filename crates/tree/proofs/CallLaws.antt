@@ -1,5 +1,7 @@
 -- How a call's promise is met: by a refusal, which leaves the words as they are, or by stores after which the words stand for
 -- the tree of the definitions and the sums are what is counted in it. Assumes nothing.
+use Rattle.model.specs.Checks.{Answer}
+use Rattle.std.specs.Prelude.{Ok, Err}
 use Prim.Native.Nat.{ℕ}
 use mathlib.Core.List.{List}
 use mathlib.Core.Path.{◌≡◌, refl, sym, ◌∙◌, subst}
@@ -8,8 +10,6 @@ use Rattle.model.specs.Calls.{Call, verdict}
 use Rattle.model.specs.Effects.{effect}
 use Rattle.model.specs.WellFormed.{WellFormed}
 use Rattle.model.specs.declared.Errno.{Errno}
-use Rattle.model.specs.declared.Answer.{Answer}
-use Rattle.model.specs.declared.Answer.TheVariants.{Done, Refused}
 use Rattle.model.proofs.CheckLaws.{not_done}
 use Rattle.model.proofs.Steps.{step-accepted, step-refused, passed, well-formed-effect}
 use Rattle.tree.specs.Layout.{view}
@@ -19,15 +19,15 @@ use Rattle.tree.specs.Calling.{Calling, Applied}
 use Rattle.tree.proofs.CountLaws.{SameCores, count_same}
 
 module _ (xs : List ℕ) (k : Kept xs) (c : Call) where
-  pub call-refused : {A : Type 0} (expected r : A) (e : Errno) → verdict (view xs) c ≡ Refused e → r ≡ expected → Calling xs xs c expected r
+  pub call-refused : {A : Type 0} (expected r : A) (e : Errno) → verdict (view xs) c ≡ Err e → r ≡ expected → Calling xs xs c expected r
   call-refused expected r e v a =
       record { answer = a; tree = sym (step-refused (view xs) c e v); kept = k; same = λ _ _. refl }
 
   -- the vetting's own answer
-  pub call_stays : (r : Answer) (e : Errno) → r ≡ verdict (view xs) c → r ≡ Refused e → Calling xs xs c (verdict (view xs) c) r
+  pub call_stays : (r : Answer) (e : Errno) → r ≡ verdict (view xs) c → r ≡ Err e → Calling xs xs c (verdict (view xs) c) r
   call_stays r e a f = call-refused _ r e (sym a ∙ f) a
 
-  module _ (v : verdict (view xs) c ≡ Done) where
+  module _ (v : verdict (view xs) c ≡ (Ok tt)) where
     pub call-done : {A : Type 0} (ys : List ℕ) (expected r : A) → Applied xs ys c → r ≡ expected → Calling xs ys c expected r
     call-done ys expected r p a =
         record {

@@ -11,8 +11,9 @@ pub mod ActingLaws
 pub mod KeptLaws
 pub mod CountLaws
 pub mod CallLaws
+pub mod AnswerLaws
 pub mod AnsweredLaws
-pub mod TestLaws
 pub mod FreshLaws
 pub mod RoomCallLaws
 pub mod OneForm
+pub mod EqualLaws

@@ -46,11 +46,11 @@ module _ (t : Tree) (s : Sound (lives t) (parents t) (depths t)) where
       levelling-deep : level < left → here.0 ≢ 0
       levelling-deep h z = omega (arith, r.deep, ap (depths t) z, s.level)
 
-      pub levelling-next : level < left → (up : GroupId) → up.0 ≡ parents t here.0 → Levelling t g level up (left - 1)
-      levelling-next h up e =
+      pub levelling-next : level < left → (up : GroupId) → up.0 ≡ parents t here.0 → (less : ℕ) → less + 1 ≡ left → Levelling t g level up less
+      levelling-next h up e less one =
           let nz : here.0 ≢ 0 = levelling-deep h in
           let here-now : min left level ≡ level = omega arith in
-          let up-then : min (left - 1) level ≡ level = omega arith in
+          let up-then : min less level ≡ level = omega arith in
           record {
             live = rw e (s.above here.0 r.live nz);
             deep = rw e (omega (arith, r.deep, s.deeper here.0 r.live nz));

@@ -109,10 +109,10 @@ module _ (v w : ℕ → ℕ) (a : SpareRow v) (b : SpareRow w) (sums : (c : Coun
   -- and so are their words, after the places before them
   and-slot : (k : ℕ) → slot_in v k ≡ slot_in w k → Below (λ k. v k ≡ w k) k → Below (λ k. v k ≡ w k) (suc (suc (suc (suc (suc k)))))
   and-slot k f before =
-      at (k + 4) (suc (suc (suc (suc k)))) (omega arith) (ap (λ (x : Slot). x.wiops) f)
-      ▹ at (k + 3) (suc (suc (suc k))) (omega arith) (ap (λ (x : Slot). x.riops) f)
-      ▹ at (k + 2) (suc (suc k)) (omega arith) (ap (λ (x : Slot). x.wbps) f)
-      ▹ at (k + 1) (suc k) (omega arith) (ap (λ (x : Slot). x.rbps) f)
+      at (k + 4) (suc (suc (suc (suc k)))) (omega arith) (ap (λ (x : Slot). x.limits.wiops) f)
+      ▹ at (k + 3) (suc (suc (suc k))) (omega arith) (ap (λ (x : Slot). x.limits.riops) f)
+      ▹ at (k + 2) (suc (suc k)) (omega arith) (ap (λ (x : Slot). x.limits.wbps) f)
+      ▹ at (k + 1) (suc k) (omega arith) (ap (λ (x : Slot). x.limits.rbps) f)
       ▹ ap (λ (x : Slot). x.device) f
       ▹ before
     where

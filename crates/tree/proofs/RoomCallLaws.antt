@@ -1,5 +1,6 @@
 -- Calls that ask a chain for room, and the running sums that are adjusted above a group: a running sum after an adjustment, what a
 -- charge or a fork may ask of the chain, and how each of its answers keeps its promise. Once for either resource. Assumes nothing.
+use Rattle.std.specs.Prelude.{Result, Ok, Err}
 use Prim.Native.Nat.{ℕ, ◌+◌, ◌-◌, ◌≤◌}
 use native.Mathlib.Omega.{arith}
 use mathlib.Core.Bool.{Bool, true}
@@ -7,18 +8,17 @@ use mathlib.Core.List.{List, ◌++◌}
 use mathlib.Core.Path.{◌≡◌, ap, sym, ◌∙◌, subst}
 use Rattle.model.specs.Functions.{weigh}
 use Rattle.model.specs.Sizes.{largest_charge}
-use Rattle.model.specs.Checks.{Check, first}
+use Rattle.model.specs.Checks.{Check, first, RoomAnswer}
 use Rattle.model.specs.Tree.{is_live, parents, places}
 use Rattle.model.specs.Hierarchy.{inside, facts_of}
 use Rattle.model.specs.Rooms.{room, full, room_for, shortage}
 use Rattle.model.specs.Rules.{process_group}
 use Rattle.model.specs.Calls.{Call, room_check, verdict}
 use Rattle.model.specs.Replies.{room_answer}
-use Rattle.model.specs.declared.GroupId.{GroupId}
+use Rattle.model.specs.declared.NoRoom.{NoRoom}
+use Rattle.model.specs.declared.Denied.{Denied}
 use Rattle.model.specs.declared.Resource.{Resource}
 use Rattle.model.specs.declared.Errno.{Errno}
-use Rattle.model.specs.declared.Answer.{Answer}
-use Rattle.model.specs.declared.RoomAnswer.{RoomAnswer}
 use Rattle.model.proofs.FunctionLaws.{split, weigh-yes, weigh-no}
 use Rattle.model.proofs.RoomAnswerLaws.{verdict-vetted, verdict-full, verdict-room}
 use Rattle.model.proofs.Steps.{process-lives}
@@ -30,8 +30,6 @@ use Rattle.tree.specs.Calling.{Calling, Applied}
 use Rattle.tree.specs.declared.chain.Chain.{Chain}
 use Rattle.tree.specs.declared.sum.Counter.{Counter}
 use Rattle.tree.specs.declared.sum.Counter.TheVariants.{Of}
-use Rattle.tree.specs.declared.counter.Search.{Search}
-use Rattle.tree.specs.declared.counter.Search.TheVariants.{Fits, Full}
 use Rattle.tree.proofs.WalkLaws.{bottom-of}
 use Rattle.tree.proofs.CallLaws.{call-refused, call-done}
 
@@ -53,13 +51,13 @@ pub record RoomCall (xs : List ℕ) (call : Call) (r : Resource) (n p : ℕ) (cs
 
 -- The checks before room pass, and g is the group of the process.
 pub record RoomVetted (xs : List ℕ) (p g : ℕ) (cs : List Check) : Type 0 where
-  pub passed : first cs ≡ Answer.Done
+  pub passed : first cs ≡ (Ok tt)
   pub live : is_live (places (view xs) p) ≡ true
   pub group : g ≡ process_group (view xs) p
 
 module _ {xs : List ℕ} {call : Call} {r : Resource} {n p : ℕ} {cs : List Check} {expected : RoomAnswer} (o : RoomCall xs call r n p cs expected) where
   -- refused before room is asked for
-  pub room-call-refused : (e : Errno) → first cs ≡ Answer.Refused e → Calling xs xs call expected (RoomAnswer.Refused e)
+  pub room-call-refused : (e : Errno) → first cs ≡ Err e → Calling xs xs call expected (Err (Denied.Refused e))
   room-call-refused e q =
       call-refused xs o.kept call expected _ e
       (o.verdict ∙ verdict-vetted cs (room_for (facts_of (view xs)) r n (process_group (view xs) p)) r e q) (sym (o.answer ∙ rw q))
@@ -76,30 +74,30 @@ module _ {xs : List ℕ} {call : Call} {r : Resource} {n p : ℕ} {cs : List Che
       room-call-chargeable few = record { home = rw home-is-bottom room-call-home; chain = rw home-is-bottom h; few = few }
 
       -- the charge was tried
-      module _ {ys : List ℕ} {x : Search} (f : ChargeTried xs ys c r n x) where
+      module _ {ys : List ℕ} {x : Result ℕ NoRoom} (f : ChargeTried xs ys c r n x) where
         found : room_of x ≡ room_for (facts_of (view xs)) r n (process_group (view xs) p)
         found = rw (← v.group, ← home-is-bottom) f.room
 
         -- a group had no room
-        pub room-call-full : (s : GroupId) (i : ℕ) → x ≡ Full s i → Calling xs ys call expected (RoomAnswer.NoRoom s i)
-        room-call-full s i e =
-            let y : room_for (facts_of (view xs)) r n (process_group (view xs) p) ≡ full s.0 i = sym found ∙ ap room_of e in
+        pub room-call-full : (s : NoRoom) → x ≡ Err s → Calling xs ys call expected (Err (Denied.NoRoom s))
+        room-call-full s e =
+            let y : room_for (facts_of (view xs)) r n (process_group (view xs) p) ≡ full s.group.0 s.consulted = sym found ∙ ap room_of e in
             let same : ys ≡ xs = subst (ChargedBy xs ys c r n) e f.words in
             rw same
-            (call-refused xs o.kept call expected _ (shortage r) (o.verdict ∙ verdict-full cs _ r v.passed s.0 i y)
+            (call-refused xs o.kept call expected _ (shortage r) (o.verdict ∙ verdict-full cs _ r v.passed s.group.0 s.consulted y)
             (sym (o.answer ∙ rw (v.passed, y))))
 
         -- all had
-        module _ (i : ℕ) (e : x ≡ Fits i) where
+        module _ (i : ℕ) (e : x ≡ Ok i) where
           enough : room_for (facts_of (view xs)) r n (process_group (view xs) p) ≡ room i
           enough = sym found ∙ ap room_of e
 
           pub room-call-charged : Adjusted xs ys (Of r) g n 0
           room-call-charged = subst (λ (a : ℕ). Adjusted xs ys (Of r) a n 0) home-is-bottom (subst (ChargedBy xs ys c r n) e f.words)
 
-          pub room-call-accepted : verdict (view xs) call ≡ Answer.Done
+          pub room-call-accepted : verdict (view xs) call ≡ (Ok tt)
           room-call-accepted = o.verdict ∙ verdict-room cs _ r v.passed i enough
 
-          pub room-call-granted : (zs : List ℕ) → Applied xs zs call → Calling xs zs call expected (RoomAnswer.Granted i)
+          pub room-call-granted : (zs : List ℕ) → Applied xs zs call → Calling xs zs call expected (Ok i)
           room-call-granted zs d =
               call-done xs o.kept call room-call-accepted zs expected _ d (sym (o.answer ∙ rw (v.passed, enough)))

@@ -1,16 +1,13 @@
 -- What every call on the tree promises: its answer, the tree that the words stand for afterwards, the invariant, and that a
 -- refusal leaves the very same words. Assumes nothing.
-use Rattle.std.specs.Prelude.{ℕ, List, ◌≡◌}
+use Rattle.model.specs.Checks.{Answer, ReadAnswer, RoomAnswer}
+use Rattle.std.specs.Prelude.{ℕ, List, ◌≡◌, Err}
 use Rattle.model.specs.Calls.{Call, verdict}
 use Rattle.model.specs.Effects.{effect, step}
 use Rattle.model.specs.Hierarchy.{facts_of}
 use Rattle.model.specs.Replies.{Asks, asked_answer, read_answer, buffer_after, text_of, buffer_of, reply}
 use Rattle.model.specs.declared.Resource.{Resource}
 use Rattle.model.specs.declared.Errno.{Errno}
-use Rattle.model.specs.declared.Answer.{Answer}
-use Rattle.model.specs.declared.Answer.TheVariants.{Refused}
-use Rattle.model.specs.declared.RoomAnswer.{RoomAnswer}
-use Rattle.model.specs.declared.ReadAnswer.{ReadAnswer}
 use Rattle.tree.specs.Layout.{view}
 use Rattle.tree.specs.Kept.{Kept}
 
@@ -23,7 +20,7 @@ pub record Calling {A : Type 0} (xs ys : List ℕ) (c : Call) (expected r : A) :
   pub answer : r ≡ expected
   pub tree : view ys ≡ step (view xs) c
   pub kept : Kept ys
-  pub same : (e : Errno) → verdict (view xs) c ≡ Refused e → ys ≡ refused_words xs c e
+  pub same : (e : Errno) → verdict (view xs) c ≡ Err e → ys ≡ refused_words xs c e
 
 -- the same of a call that answers only success or a refusal
 abbrev pub Called : List ℕ → List ℕ → Call → Answer → Type 0

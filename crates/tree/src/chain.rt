@@ -7,10 +7,10 @@ ghost use Rattle.tree.specs.Kept.{KeptAt};
 ghost use Rattle.tree.specs.Counters.{ChainOf};
 
 use super::group::{depth, parent};
-use super::layout::{CHAIN, Tree};
+use super::layout::{CHAIN, ROOT, Tree};
 use model::{GroupId, Meeting};
 
-// The first `len` groups of `at`.
+// The first `len` groups of `at`: an array by value, built once and passed on, as document 01 asks; there is no heap.
 #[derive(Clone, Copy)]
 pub struct Chain {
     pub at: [GroupId; CHAIN],
@@ -21,14 +21,15 @@ pub fn chain_of(t: &Tree, g: GroupId) -> Chain
     requires { KeptAt t.now g.0 }
     ensures { ChainOf (view t.now) g.0 result }
 {
-    let root = GroupId(0);
+    // Places are counted by hand: a `for` over the array was tried, and each of its seventeen places is then written out, so that a
+    // charge calls this and copies the chain.
     let mut c = Chain {
-        at: [root; CHAIN],
+        at: [ROOT; CHAIN],
         len: 1,
     };
     let mut here = g;
     let mut i: usize = 0;
-    while here.0 != 0 {
+    while here != ROOT {
         c.at[i] = here;
         here = parent(t, here);
         i += 1;
@@ -44,10 +45,8 @@ fn ancestor_at(t: &Tree, g: GroupId, level: u64) -> GroupId
     ensures { result.0 ≡ entry_at (view t.now) g.0 (min (depths (view t.now) g.0) level) }
 {
     let mut here = g;
-    let mut left = depth(t, g);
-    while level < left {
+    for _ in level..depth(t, g) {
         here = parent(t, here);
-        left -= 1;
     }
     here
 }
@@ -61,7 +60,7 @@ pub fn common_ancestor(t: &Tree, g: GroupId, h: GroupId) -> Meeting
     let mut a = ancestor_at(t, g, depth(t, h));
     let mut b = ancestor_at(t, h, depth(t, g));
     let mut compared: u64 = 1;
-    while a.0 != b.0 {
+    while a != b {
         a = parent(t, a);
         b = parent(t, b);
         compared += 1;

@@ -4,7 +4,7 @@
 #![tactic(auto)]
 
 pub mod layout; // the sizes, and the type of a tree
-mod row; // the places in a row, and the store of a word
+mod row; // the places in a row, and the read and the store of a word
 pub mod group; // what is kept of a group
 pub mod setting; // its settings, their controllers and defaults
 pub mod device; // the slots of io.max

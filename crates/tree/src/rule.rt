@@ -1,4 +1,5 @@
-// The tests that the checks of the calls are made of: each answers what its definition in model says.
+// The tests that the checks of the calls are made of: each answers what its definition in model says. A number in
+// range is asked for in the clause, and has no type of its own, as in `group`.
 ghost use Rattle.std.specs.Prelude.{◌≡◌, ◌<◌};
 ghost use Rattle.model.specs.Sizes.{groups, processes};
 ghost use Rattle.model.specs.Tree.{cores, places};
@@ -11,7 +12,7 @@ ghost use Rattle.tree.specs.Kept.{Kept, KeptAt};
 
 use super::counter::count;
 use super::group::{has, is_live, owner, parent};
-use super::layout::Tree;
+use super::layout::{ROOT, Tree};
 use super::process::{is_process, process_group};
 use super::sum::{Counter, sum};
 use model::{Controller, GroupId, ProcessId};
@@ -21,10 +22,7 @@ pub fn may_write(t: &Tree, user: u32, g: GroupId) -> bool
     requires { g.0 < groups }
     ensures { result ≡ may_write (view t.now) user g.0 }
 {
-    if user == 0 {
-        return true;
-    }
-    user as u64 == owner(t, g)
+    user == 0 || user as u64 == owner(t, g)
 }
 
 // Whether a controller is on in a group: its parent has it in its set.
@@ -32,10 +30,7 @@ pub fn is_on(t: &Tree, c: Controller, g: GroupId) -> bool
     requires { HasParent t.now g.0 }
     ensures { result ≡ on (view t.now) c g.0 }
 {
-    if g.0 == 0 {
-        return false;
-    }
-    has(t, parent(t, g), c)
+    g != ROOT && has(t, parent(t, g), c)
 }
 
 // Whether a group may have a controller in its set.
@@ -43,10 +38,7 @@ pub fn is_available(t: &Tree, c: Controller, g: GroupId) -> bool
     requires { HasParent t.now g.0 }
     ensures { result ≡ available (view t.now) c g.0 }
 {
-    if g.0 == 0 {
-        return true;
-    }
-    is_on(t, c, g)
+    g == ROOT || is_on(t, c, g)
 }
 
 // Whether group k is a live child of g. Its parent is asked first, so that a pass over all groups reads one word of most rows, unless
@@ -55,14 +47,7 @@ pub fn is_child(t: &Tree, g: GroupId, k: GroupId) -> bool
     requires { k.0 < groups }
     ensures { result ≡ child_of g.0 k.0 (cores (view t.now) k.0) }
 {
-    let above = parent(t, k);
-    if above.0 != g.0 {
-        return false;
-    }
-    if k.0 == 0 {
-        return false;
-    }
-    is_live(t, k)
+    parent(t, k) == g && k != ROOT && is_live(t, k)
 }
 
 // Whether a process stands in a group.
@@ -70,11 +55,7 @@ pub fn stands_in(t: &Tree, p: ProcessId, g: GroupId) -> bool
     requires { p.0 < processes }
     ensures { result ≡ stands_in (places (view t.now) p.0) g.0 }
 {
-    if !is_process(t, p) {
-        return false;
-    }
-    let here = process_group(t, p);
-    here.0 == g.0
+    is_process(t, p) && process_group(t, p) == g
 }
 
 // Whether a group has a live child, and whether a live process stands in it: both are counted in its row.
@@ -97,8 +78,5 @@ pub fn is_taken(t: &Tree, g: GroupId) -> bool
     requires { Kept t.now × (g.0 < groups) }
     ensures { result ≡ group_taken (view t.now) g.0 }
 {
-    if is_live(t, g) {
-        return true;
-    }
-    sum(t, g, Counter::Zombies) != 0
+    is_live(t, g) || sum(t, g, Counter::Zombies) != 0
 }

@@ -1,11 +1,12 @@
 // The counts in a group's row: what stands inside the group, as Linux's page counters count pages up the hierarchy, and the zombies that
 // ended inside; its live children and the live processes in it, which are counted there alone.
+// A number in range is asked for in the clause, and has no type of its own, as in `group`.
 ghost use Rattle.std.specs.Prelude.{◌≡◌, ◌<◌};
 ghost use Rattle.model.specs.Sizes.{groups};
 ghost use Rattle.tree.specs.Layout.{row_words, with_word, sum_in, sum_field};
 
-use super::layout::{FRONT, ROW, Tree};
-use super::row::{CHILDREN, MEMBERS, PAGE_SUM, PROCESS_SUM, ZOMBIES, set_word};
+use super::layout::Tree;
+use super::row::{CHILDREN, MEMBERS, PAGE_SUM, PROCESS_SUM, ZOMBIES, set_word, word};
 use model::{GroupId, Resource};
 
 // What is counted: more than limits count, so not a resource.
@@ -25,10 +26,8 @@ fn sum_field(c: Counter) -> usize
     ensures { (result ≡ sum_field c) × (result < row_words) }
 {
     match c {
-        Counter::Of(r) => match r {
-            Resource::Pages => PAGE_SUM,
-            Resource::Processes => PROCESS_SUM,
-        },
+        Counter::Of(Resource::Pages) => PAGE_SUM,
+        Counter::Of(Resource::Processes) => PROCESS_SUM,
         Counter::Children => CHILDREN,
         Counter::Members => MEMBERS,
         Counter::Zombies => ZOMBIES,
@@ -39,13 +38,12 @@ pub fn sum(t: &Tree, g: GroupId, c: Counter) -> u64
     requires { g.0 < groups }
     ensures { result ≡ sum_in t.now c g.0 }
 {
-    let i = FRONT + g.0 as usize * ROW + sum_field(c);
-    t[i]
+    word(t, g, sum_field(c))
 }
 
 pub fn set_sum(t: &mut Tree, g: GroupId, c: Counter, n: u64)
     requires { g.0 < groups }
     ensures { t.new ≡ with_word t.old g.0 (sum_field c) n }
 {
-    set_word(t, g.0, sum_field(c), n);
+    set_word(t, g, sum_field(c), n);
 }

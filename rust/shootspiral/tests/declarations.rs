@@ -59,12 +59,12 @@ impl Function {
     }
 }
 
-/// The functions of a crate that begin with some text, each from its name on.
+/// The functions of the interface in a crate, whose names begin with `ss_` after some text, each from its name on.
 fn functions(folder: &str, begins: &str) -> Vec<Function> {
     let mut all = Vec::new();
     for entry in fs::read_dir(in_repository(folder)).unwrap() {
         let text = fs::read_to_string(entry.unwrap().path()).unwrap();
-        for item in text.split(begins).skip(1) {
+        for item in text.split(begins).filter(|item| item.starts_with("ss_")) {
             let (head, rest) = item.split_once("\n{\n").expect(item);
             let (body, _) = rest.split_once("\n}\n").expect(item);
             all.push(Function::read(head, body));
@@ -75,9 +75,7 @@ fn functions(folder: &str, begins: &str) -> Vec<Function> {
 
 /// What stands in for an exported function in the library: the function of its name.
 fn library() -> Vec<Function> {
-    let mut all = functions("crates/shootspiral/src", "pub fn ");
-    all.retain(|function| function.name.starts_with("ss_"));
-    all
+    functions("crates/shootspiral/src", "pub fn ")
 }
 
 /// What is exported, as it stands.

@@ -1,22 +1,12 @@
--- `control::held::is_any_held` meets its contract: one search of the groups in place of one for each controller. The
--- invariant: the numbers that are left hold such a child where all do. The measure is how many are left. Assumes nothing.
-use Prim.Native.Nat.{ℕ, ◌≤◌}
-use mathlib.Core.Bool.{Bool}
-use mathlib.Core.List.{List}
+-- `control::held::is_any_held` meets its contract. The invariant: the numbers that are left have such a child where one is held.
+-- Assumes nothing.
 use mathlib.Core.Path.{◌≡◌}
 use Rattle.model.specs.Functions.{any}
-use Rattle.model.specs.Sizes.{groups}
+use Rattle.model.specs.Control.{at_controller}
 use Rattle.tree.specs.Layout.{view}
-use Rattle.control.specs.Flags.{flag_of, child_holds_any}
-use Rattle.control.specs.declared.flags.Flags.{Flags}
+use Rattle.control.specs.Flags.{child_holds_any, is_any_held}
 use Rattle.control.proofs.held.is_any_held.Given as goal
 
--- a number of a live child that has one of them in its set
-abbrev pub is_found : List ℕ → ℕ → Flags → ℕ → Bool
-is_found t g leaving = child_holds_any (view t) g (flag_of leaving)
-
-abbrev pub invariant-loop-left : goal.invariant-loop-left
-invariant-loop-left l = (l.left ≤ groups) × (any l.left (is_found l.t l.g.0 l.leaving) ≡ any groups (is_found l.t l.g.0 l.leaving))
-
-abbrev pub decreases-loop-left : goal.decreases-loop-left
-decreases-loop-left l = l.left
+abbrev pub invariant-loop-k : goal.invariant-loop-k
+invariant-loop-k l =
+    any l.k (child_holds_any (view l.t) l.g.0 (at_controller l.leaving)) ≡ is_any_held (view l.t) l.g.0 (at_controller l.leaving)

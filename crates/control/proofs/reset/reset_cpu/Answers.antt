@@ -1,14 +1,7 @@
 -- `control::reset::reset_cpu` meets its contract: with no store the group stays as it is. Assumes nothing.
-use Rattle.control.proofs.WroteLaws.{wrote-group-as, wrote_none}
-use Rattle.control.proofs.ResetLaws.{cpu-kept, cpu-gone}
+use mathlib.Core.Path.{refl}
+use Rattle.control.proofs.WroteLaws.{wrote_none}
 use Rattle.control.proofs.reset.reset_cpu.Goals as goal
 
-pub returns-then-not-gone : goal.returns-then-not-gone
-returns-then-not-gone c =
-    wrote_none c.args.t.now c.args.k.0 c.requires.long
-    (cpu-kept _ c.args.gone c.if-not-gone.true)
-
-pub returns : goal.returns
-returns c =
-    wrote-group-as c.args.t.now c.args.k.0 (cpu-gone _ c.args.gone c.if-not-gone.false)
-    c.set_cpu.ensures
+pub returns-else-gone : goal.returns-else-gone
+returns-else-gone c = rw c.if-gone.false (wrote_none _ _ c.requires.long refl)

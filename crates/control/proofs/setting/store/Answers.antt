@@ -2,30 +2,15 @@
 use Rattle.tree.specs.Layout.{view}
 use Rattle.control.proofs.ValueLaws.{settable-row, figure-in, storable-kept, storable-quota, storable-bandwidth, storable-amount}
 use Rattle.control.proofs.ValueLaws.{weight-written, quota-written, bandwidth-written, limit-written}
-use Rattle.control.proofs.ValueLaws.{weight-io, quota-io, bandwidth-io, limit-io, settable-as, stored-as, stored-with-room}
+use Rattle.control.proofs.ValueLaws.{weight-io, quota-io, bandwidth-io, limit-io, stored-with-room}
 use Rattle.control.proofs.WroteLaws.{wrote-group-as}
 use Rattle.control.proofs.setting.store.Goals as goal
-
-pub quota-requires : goal.quota-requires
-quota-requires c = (settable-row _ _ _ c.requires).low
-
-pub period-requires : goal.period-requires
-period-requires c = (settable-row _ _ _ c.requires).low
 
 pub set_cpu-requires : goal.set_cpu-requires
 set_cpu-requires c = (settable-row _ _ _ c.requires, storable-kept _ _ _ c.requires _ c.quota.ensures)
 
-pub weight-requires : goal.weight-requires
-weight-requires c = (settable-row _ _ _ c.requires).low
-
-pub period-requires-in-Quota : goal.period-requires-in-Quota
-period-requires-in-Quota c = (settable-row _ _ _ c.requires).low
-
 pub set_cpu-requires-in-Quota : goal.set_cpu-requires-in-Quota
 set_cpu-requires-in-Quota c = (settable-row _ _ _ c.requires, storable-quota _ _ _ c.requires _ c.in-Quota.is)
-
-pub weight-requires-in-Bandwidth : goal.weight-requires-in-Bandwidth
-weight-requires-in-Bandwidth c = (settable-row _ _ _ c.requires).low
 
 pub set_cpu-requires-in-Bandwidth : goal.set_cpu-requires-in-Bandwidth
 set_cpu-requires-in-Bandwidth c = (settable-row _ _ _ c.requires, storable-bandwidth _ _ _ c.requires _ _ c.in-Bandwidth.is)
@@ -33,9 +18,6 @@ set_cpu-requires-in-Bandwidth c = (settable-row _ _ _ c.requires, storable-bandw
 pub set_limit-requires : goal.set_limit-requires
 set_limit-requires c =
     (settable-row _ _ _ c.requires, storable-amount _ _ _ c.stored_limit.ensures (figure-in _ _ _ c.requires _ _ c.in-Maximum.is))
-
-pub store_device-requires : goal.store_device-requires
-store_device-requires c = settable-as _ _ _ c.requires c.in-Device.is
 
 -- cpu.weight
 pub returns-in-Weight : goal.returns-in-Weight
@@ -60,10 +42,6 @@ returns-in-Bandwidth c =
     stored-with-room _ _ _ c.requires _ (bandwidth-io _ _ _ _ e)
     (wrote-group-as _ _ (bandwidth-written ((view c.args.t.now).group c.args.g.0) _ _ _ _ e c.weight-in-Bandwidth.ensures)
     c.set_cpu-in-Bandwidth.ensures)
-
--- io.max
-pub returns-in-Device : goal.returns-in-Device
-returns-in-Device c = stored-as _ _ _ c.requires c.in-Device.is _ _ c.store_device.ensures
 
 -- memory.max or pids.max
 pub returns-in-Maximum : goal.returns-in-Maximum

@@ -1,9 +1,14 @@
--- `devices::table::with_slot` meets its contract: four places one after another. Assumes nothing.
-use Rattle.devices.proofs.PassLaws.{four-places}
+-- `devices::table::with_slot` meets its contract. The invariant: the pass over the places that are left, with what is carried to
+-- them, ends as the whole pass does. Assumes nothing.
+use native.Mathlib.Omega.{arith}
+use Rattle.devices.proofs.PassLaws.{passing-next, put-in-some, put-in-none}
 use Rattle.devices.proofs.table.with_slot.Goals as goal
 
-pub returns : goal.returns
-returns c =
-    let a = c.args in
-    four-places a.s a.x c.place-first.result c.place-second.result c.place-third.result c.place-fourth.result
-    c.place-first.ensures c.place-second.ensures c.place-third.ensures c.place-fourth.ensures
+pub loop-here-preserved : goal.loop-here-preserved
+loop-here-preserved c = passing-next c.loop-here.invariant c.loop-here-test.true c.place-carried.new.here c.place-carried.result c.place-carried.ensures
+
+pub returns-then-carried-eq0 : goal.returns-then-carried-eq0
+returns-then-carried-eq0 c = put-in-some c.loop-here.invariant (omega arith) c.if-carried-eq0.true
+
+pub returns-else-carried-eq0 : goal.returns-else-carried-eq0
+returns-else-carried-eq0 c = put-in-none c.loop-here.invariant (omega arith) c.if-carried-eq0.false

@@ -1,35 +1,25 @@
--- `files::list::put_names` meets its contract: each name is put where the one before it ended. Assumes nothing.
-use native.Mathlib.Omega.{arith}
-use Rattle.model.specs.Text.{bytes}
-use Rattle.files.proofs.NameLineLaws.{length-name, line-appended}
+-- `files::list::put_names` meets its contract: what the names so far and those that are left make is the line. Assumes nothing.
+use Rattle.std.proofs.Common.{◌∙◌}
+use Rattle.model.specs.Control.{at_controller}
+use Rattle.files.proofs.NameLineLaws.{names-none, names-next, names-same, names-ended, names-empty}
 use Rattle.files.proofs.list.put_names.Goals as goal
+use Rattle.files.proofs.list.put_names.Goals.{then-get, else-get}
 
-pub put_name-second-requires : goal.put_name-second-requires
-put_name-second-requires c =
-    let a = c.args in
-    omega (arith, length-name 0 (bytes "cpu") a.cpu)
+pub loop-c-init : goal.loop-c-init
+loop-c-init g c = names-none (at_controller c.args.set) c.requires.0
 
-pub put_name-third-requires : goal.put_name-third-requires
-put_name-third-requires c =
-    let a = c.args in
-    omega (arith, length-name 0 (bytes "cpu") a.cpu, length-name c.put_name-first.result (bytes "io") a.io)
+pub loop-c-preserved : goal.loop-c-preserved
+loop-c-preserved g c =
+    elim c.if-get.branch [
+      | then-get w ↦
+          names-next c.loop-c.invariant c.loop-c-test.true _ c.get.ensures w.name.ensures (w.out-is ∙ w.put_name.ensures) w.if-get.true
+      | else-get w ↦ names-same c.loop-c.invariant c.loop-c-test.true _ c.get.ensures w.out-is w.if-get.false
+    ]
 
-pub put_name-fourth-requires : goal.put_name-fourth-requires
-put_name-fourth-requires c =
-    let a = c.args in
-    omega (arith, length-name 0 (bytes "cpu") a.cpu, length-name c.put_name-first.result (bytes "io") a.io, length-name c.put_name-second.result (bytes "memory") a.memory)
+pub returns-then-not-is_empty : goal.returns-then-not-is_empty
+returns-then-not-is_empty g c =
+    c.push.ensures ∙ names-ended c.loop-c.invariant c.loop-c-test.false c.is_empty.ensures c.if-not-is_empty.true
 
-pub put_end-requires : goal.put_end-requires
-put_end-requires c =
-    let a = c.args in
-    omega (arith, length-name 0 (bytes "cpu") a.cpu, length-name c.put_name-first.result (bytes "io") a.io, length-name c.put_name-second.result (bytes "memory") a.memory, length-name c.put_name-third.result (bytes "pids") a.pids)
-
-pub returns : goal.returns
-returns c =
-    let a = c.args in
-    line-appended a.cpu a.io a.memory a.pids
-    c.put_name-first.ensures
-    c.put_name-second.ensures
-    c.put_name-third.ensures
-    c.put_name-fourth.ensures
-    c.put_end.ensures
+-- no name
+pub returns-else-not-is_empty : goal.returns-else-not-is_empty
+returns-else-not-is_empty g c = names-empty c.loop-c.invariant c.loop-c-test.false c.is_empty.ensures c.if-not-is_empty.false

@@ -1,54 +1,33 @@
--- `files::list::put_procs` meets its contract. The invariant: the lines written so far, and those of the numbers that are passed next, are
--- all the lines, and so many are left. The measure is how many numbers are left. Assumes nothing.
-use native.Mathlib.Omega.{arith}
-use mathlib.Core.Path.{refl, sym, ◌∙◌}
+-- `files::list::put_procs` meets its contract: the lines written so far, and those of the numbers that come, are all the lines, and so
+-- many are left. Assumes nothing.
+use Rattle.std.proofs.Common.{rules, arith, ◌∙◌}
 use Rattle.model.specs.Files.{contents}
-use Rattle.files.proofs.ListingLaws.{listing_start, listing-more, listing-room, listing-line, listing-skip, listing-end}
+use Rattle.files.specs.Texts.{file_contents}
+use Rattle.files.proofs.ListingLaws.{listing_start, listing-room, listing-line, listing-skip, listing-done, listing-end}
 use Rattle.files.proofs.list.put_procs.Goals as goal
+use Rattle.files.proofs.list.put_procs.Goals.{then-stands_in, else-stands_in}
 
-pub count-left-requires : goal.count-left-requires
-count-left-requires c = c.requires.0
+pub loop-p-init : goal.loop-p-init
+loop-p-init g c = rw c.requires.empty (listing_start _ _ c.requires.group.kept.formed.placed.none _ c.count-left.ensures)
 
-pub loop-left-init : goal.loop-left-init
-loop-left-init c = (refl, listing_start _ _ c.requires.0.kept.formed.placed.none _ _ c.count-left.ensures)
+-- the last was listed
+pub returns-then-left-eq0 : goal.returns-then-left-eq0
+unfolding file_contents contents
+returns-then-left-eq0 g c = listing-done _ _ c.loop-p.invariant c.if-left-eq0.true (omega arith)
 
-pub stands_in-requires : goal.stands_in-requires
-stands_in-requires c = listing-more _ _ _ _ _ _ c.loop-left.invariant.1 (omega arith)
+pub put_line-requires : goal.put_line-requires
+put_line-requires g c = (search rules, omega (arith, c.requires.room, listing-room _ _ c.loop-p.invariant (omega arith) (omega arith)))
 
-pub put_line-at-requires : goal.put_line-at-requires
-put_line-at-requires c =
-    listing-room _ _ _ _ _ _ c.loop-left.invariant.1 (omega arith)
-    (omega arith)
-
-pub overflow_add-p : goal.overflow_add-p
-overflow_add-p c = omega (arith, listing-more _ _ _ _ _ _ c.loop-left.invariant.1 (omega arith))
-
-pub loop-left-smaller-then-stands_in : goal.loop-left-smaller-then-stands_in
-loop-left-smaller-then-stands_in c = omega (arith, listing-more _ _ _ _ _ _ c.loop-left.invariant.1 (omega arith))
-
-pub loop-left-preserved-then-stands_in : goal.loop-left-preserved-then-stands_in
-loop-left-preserved-then-stands_in c = (
-  c.put_line-at.auto.out ∙ c.loop-left.invariant.0,
-  listing-line _ _ _ _ _ _ c.loop-left.invariant.1 (omega arith) _ _
-      (sym c.stands_in.ensures ∙ c.if-stands_in.true) c.put_line-at.ensures,
-)
-
-pub overflow_add-p-else-stands_in : goal.overflow_add-p-else-stands_in
-overflow_add-p-else-stands_in c = omega (arith, listing-more _ _ _ _ _ _ c.loop-left.invariant.1 (omega arith))
-
-pub loop-left-smaller : goal.loop-left-smaller
-loop-left-smaller c = omega (arith, listing-more _ _ _ _ _ _ c.loop-left.invariant.1 (omega arith))
-
-pub loop-left-preserved : goal.loop-left-preserved
-loop-left-preserved c = (
-  c.loop-left.invariant.0,
-  listing-skip _ _ _ _ _ _ c.loop-left.invariant.1 (omega arith)
-      (sym c.stands_in.ensures ∙ c.if-stands_in.false),
-)
-
-pub shape_of-out : goal.shape_of-out
-shape_of-out c = c.loop-left.invariant.0
+pub loop-p-preserved : goal.loop-p-preserved
+loop-p-preserved g c =
+    elim c.if-stands_in.branch [
+      | then-stands_in w ↦
+          listing-line _ _ c.loop-p.invariant (omega arith) (omega arith) c.stands_in.ensures w.if-stands_in.true c.if-left-eq0.false
+          (w.out-is ∙ w.put_line.ensures) w.left-is
+      | else-stands_in w ↦
+          listing-skip _ _ c.loop-p.invariant (omega arith) (omega arith) c.stands_in.ensures w.if-stands_in.false w.out-is w.left-is
+    ]
 
 pub returns : goal.returns
-unfolding contents
-returns c = listing-end _ _ _ _ _ _ c.loop-left.invariant.1 (omega arith) _
+unfolding file_contents contents
+returns g c = listing-end _ _ c.loop-p.invariant (omega arith)

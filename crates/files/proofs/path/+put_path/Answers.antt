@@ -1,36 +1,42 @@
 -- `files::path::put_path` meets its contract: the path of a group is its parent's, a "/" and its number. Assumes nothing.
-use native.Mathlib.Omega.{arith}
-use Rattle.model.specs.Zombies.{path_parents}
-use Rattle.text.proofs.WriteLaws.{appended_then, appended-as, appended_nothing}
-use Rattle.tree.specs.Layout.{view}
-use Rattle.model.proofs.LengthLaws.{path-none}
-use Rattle.files.proofs.PathLaws.{there-low, path-text, path-fits, path-above}
+use Rattle.std.proofs.Common.{ℕ, List, ◌++◌, arith, ap, append_assoc, length, length-append}
+use Rattle.files.proofs.PathLaws.{is_root, not_root, path-of-root, depth-some, path-above, path-next, length-next}
 use Rattle.files.proofs.path.+put_path.Goals as goal
 
 -- the root
-pub returns-then-deep-eq0 : goal.returns-then-deep-eq0
-returns-then-deep-eq0 t c =
-    let a = c.args in
-    appended-as (path-none (path_parents (view a.t.now)) a.deep a.g.0 c.if-deep-eq0.true)
-    (appended_nothing a.out.now a.at)
+pub returns-then-eq : goal.returns-then-eq
+returns-then-eq t c = path-of-root c.requires (is_root c.eq.ensures c.if-eq.true)
 
-pub path_parent-requires : goal.path_parent-requires
-path_parent-requires t c = there-low c.requires.group
+pub put_path-requires : goal.put_path-requires
+put_path-requires t c =
+    let nz = not_root c.eq.ensures c.if-eq.false in (
+      omega (arith, depth-some c.requires nz _ c.path_parent.ensures),
+      path-above c.requires nz _ c.path_parent.ensures,
+    )
 
-pub put_path-above-requires : goal.put_path-above-requires
-put_path-above-requires t c =
-    (omega arith, path-above _ _ _ _ _ c.requires c.if-deep-eq0.false _ c.path_parent.ensures)
+pub push-requires : goal.push-requires
+push-requires t c =
+    omega (
+      arith,
+      length-append {A = ℕ},
+      ap length c.put_path.ensures,
+      c.requires.room,
+      length-next c.requires (not_root c.eq.ensures c.if-eq.false) _ c.path_parent.ensures,
+    )
 
-pub put_byte-slash-requires : goal.put_byte-slash-requires
-put_byte-slash-requires t c =
-    omega (arith, path-fits _ _ _ _ _ c.requires c.if-deep-eq0.false _ c.path_parent.ensures)
-
-pub put_number-requires : goal.put_number-requires
-put_number-requires t c =
-    omega (arith, path-fits _ _ _ _ _ c.requires c.if-deep-eq0.false _ c.path_parent.ensures)
+pub push_number-requires : goal.push_number-requires
+push_number-requires t c =
+    omega (
+      arith,
+      length-append {A = ℕ},
+      ap length c.push.ensures,
+      ap length c.put_path.ensures,
+      c.requires.room,
+      length-next c.requires (not_root c.eq.ensures c.if-eq.false) _ c.path_parent.ensures,
+    )
 
 -- the parent's path, and then the number
 pub returns : goal.returns
 returns t c =
-    appended-as (path-text _ _ _ _ _ c.requires c.if-deep-eq0.false _ c.path_parent.ensures)
-    (appended_then c.put_path-above.ensures (appended_then c.put_byte-slash.ensures c.put_number.ensures))
+    rw (c.push_number.ensures, c.push.ensures, c.put_path.ensures, append_assoc, append_assoc)
+    (ap (λ (l : List ℕ). c.args.out.now ++ l) (path-next c.requires (not_root c.eq.ensures c.if-eq.false) _ c.path_parent.ensures))

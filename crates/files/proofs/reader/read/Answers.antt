@@ -1,42 +1,25 @@
--- `files::reader::read` meets its contract: what is found is delivered by one of three functions. Assumes nothing.
-use Prim.Native.Nat.{ℕ, ◌<◌}
-use native.Mathlib.Omega.{arith}
-use mathlib.Core.List.{List}
-use mathlib.Core.Option.{some}
-use mathlib.Core.Path.{◌≡◌, ap, sym, ◌∙◌}
-use lib.ListN.{length}
-use Rattle.model.specs.Names.{file_name, files, file_named}
-use Rattle.model.specs.declared.File.{File}
-use Rattle.lines.specs.Name.{first_file, file_at, place_named}
-use Rattle.lines.proofs.NameLaws.{named-at, named_none}
+-- `files::reader::read` meets its contract: what is found is delivered. Assumes nothing.
+use Rattle.std.proofs.Common.{◌≡◌, sym, ◌∙◌, arith, rules, Err}
+use Rattle.model.specs.declared.Errno.TheVariants.{Enoent}
 use Rattle.tree.proofs.KeptLaws.{live-row}
-use Rattle.files.proofs.DeliveryLaws.{read-no-number, read-dead, read-unknown, read-not-present, read-delivered, delivers-found, short-file}
+use Rattle.files.proofs.DeliveryLaws.{read-no-number, read-dead, read-unknown, read-not-present, read-delivered, short-file}
 use Rattle.files.proofs.reader.read.Goals as goal
-
--- what the name names, where it is a file's
-found : (name : List ℕ) {i : ℕ} {f : File} → i ≡ place_named file_name name files → i < length files → f ≡ file_at i
-    → file_named name ≡ some f
-found name p l e = named-at file_name name files p first_file l ∙ ap some (sym e)
 
 -- a number out of range
 pub returns-then-group-ge-GROUPS : goal.returns-then-group-ge-GROUPS
-returns-then-group-ge-GROUPS c =
-    let a = c.args in
-    read-no-number a.tree.now a.group.0 a.file.now a.reply.now c.if-group-ge-GROUPS.true
+returns-then-group-ge-GROUPS c = read-no-number _ _ _ _ c.if-group-ge-GROUPS.true
 
 -- not live
 pub returns-then-not-is_live : goal.returns-then-not-is_live
-returns-then-not-is_live c =
-    let a = c.args in
-    read-dead a.tree.now a.group.0 a.file.now a.reply.now (omega arith)
-    (sym c.is_live.ensures ∙ c.if-not-is_live.true)
+returns-then-not-is_live c = read-dead _ _ _ _ (omega arith) (sym c.is_live.ensures ∙ c.if-not-is_live.true)
 
 -- no such file
-pub returns-then-place-ge-FILES : goal.returns-then-place-ge-FILES
-returns-then-place-ge-FILES c =
-    let a = c.args in
-    read-unknown a.tree.now a.group.0 a.file.now a.reply.now (omega arith) (sym c.is_live.ensures ∙ c.if-not-is_live.false)
-    (named_none file_name _ files c.file_place-place.ensures (omega arith))
+pub returns-in_err-found : goal.returns-in_err-found
+returns-in_err-found c =
+    let e : c.from_residual.result ≡ Err Enoent = search rules in
+    rw e
+    (read-unknown _ _ _ _ (omega arith) (sym c.is_live.ensures ∙ c.if-not-is_live.false)
+    (sym c.file_named.ensures ∙ c.in_err-found.ensures.ok_part))
 
 pub is_present-requires : goal.is_present-requires
 is_present-requires c = live-row _ c.requires _ (sym c.is_live.ensures ∙ c.if-not-is_live.false)
@@ -44,45 +27,44 @@ is_present-requires c = live-row _ c.requires _ (sym c.is_live.ensures ∙ c.if-
 -- absent there
 pub returns-then-not-is_present : goal.returns-then-not-is_present
 returns-then-not-is_present c =
-    let a = c.args in
-    read-not-present a.tree.now a.group.0 a.file.now a.reply.now (omega arith) (sym c.is_live.ensures ∙ c.if-not-is_live.false) _
-    (found _ c.file_place-place.ensures (omega arith) c.file_at-found.ensures)
+    read-not-present _ _ _ _ (omega arith) (sym c.is_live.ensures ∙ c.if-not-is_live.false) _
+    (sym c.file_named.ensures ∙ c.in_ok-found.ensures.ok_part)
     (sym c.is_present.ensures ∙ c.if-not-is_present.true)
-
-pub read_procs-requires : goal.read_procs-requires
-read_procs-requires c = record { kept = c.requires; live = sym c.is_live.ensures ∙ c.if-not-is_live.false }
 
 -- cgroup.procs
 pub returns-in-Procs : goal.returns-in-Procs
 returns-in-Procs c =
-    let a = c.args in
     read-delivered _ _ _ _ (omega arith) (sym c.is_live.ensures ∙ c.if-not-is_live.false) _
-    (found _ c.file_place-place.ensures (omega arith) c.file_at-found.ensures)
+    (sym c.file_named.ensures ∙ c.in_ok-found.ensures.ok_part)
     (sym c.is_present.ensures ∙ c.if-not-is_present.false)
-    (delivers-found a.tree.now a.group.0 c.in-Procs.is c.read_procs.ensures)
+    c.read_file.ensures
 
-pub read_setting-requires : goal.read_setting-requires
-read_setting-requires c = record { kept = c.requires; live = sym c.is_live.ensures ∙ c.if-not-is_live.false }
-
--- a setting
-pub returns-in-Value : goal.returns-in-Value
-returns-in-Value c =
-    let a = c.args in
+-- io.max
+pub returns-in-IoMax : goal.returns-in-IoMax
+returns-in-IoMax c =
     read-delivered _ _ _ _ (omega arith) (sym c.is_live.ensures ∙ c.if-not-is_live.false) _
-    (found _ c.file_place-place.ensures (omega arith) c.file_at-found.ensures)
+    (sym c.file_named.ensures ∙ c.in_ok-found.ensures.ok_part)
     (sym c.is_present.ensures ∙ c.if-not-is_present.false)
-    (delivers-found a.tree.now a.group.0 c.in-Value.is c.read_setting.ensures)
+    (rw c.in-Value.is c.read_file-in-IoMax.ensures)
 
-pub read_other-requires : goal.read_other-requires
-read_other-requires c = (
-  record { kept = c.requires; live = sym c.is_live.ensures ∙ c.if-not-is_live.false },
-  short-file _ c.in_default.not-Procs c.in_default-found.not-Value,
-)
+-- another setting
+pub returns-in_default-s : goal.returns-in_default-s
+returns-in_default-s c =
+    read-delivered _ _ _ _ (omega arith) (sym c.is_live.ensures ∙ c.if-not-is_live.false) _
+    (sym c.file_named.ensures ∙ c.in_ok-found.ensures.ok_part)
+    (sym c.is_present.ensures ∙ c.if-not-is_present.false)
+    (rw c.in-Value.is c.read_file-in_default-s.ensures)
 
 -- another file
-pub returns : goal.returns
-returns c =
+pub read_file-requires-in_default : goal.read_file-requires-in_default
+read_file-requires-in_default c = (
+  record { kept = c.requires; live = sym c.is_live.ensures ∙ c.if-not-is_live.false },
+  (short-file _ c.in_default.not-Procs c.in_default.not-Value, omega arith),
+)
+
+pub returns-in_default : goal.returns-in_default
+returns-in_default c =
     read-delivered _ _ _ _ (omega arith) (sym c.is_live.ensures ∙ c.if-not-is_live.false) _
-    (found _ c.file_place-place.ensures (omega arith) c.file_at-found.ensures)
+    (sym c.file_named.ensures ∙ c.in_ok-found.ensures.ok_part)
     (sym c.is_present.ensures ∙ c.if-not-is_present.false)
-    c.read_other.ensures
+    c.read_file-in_default.ensures

@@ -1,16 +1,12 @@
--- `lines::control::wish_of` meets its contract: the words from `at` on, after the wish so far, ask what all the words
--- ask. The measure is what is left of the text. Assumes nothing.
-use Prim.Native.Nat.{◌-◌, ◌≤◌}
+-- `lines::control::wish_of` meets its contract: the words that are left, after the wish so far, ask what all the words ask. Assumes
+-- nothing.
 use mathlib.Core.Path.{◌≡◌}
-use lib.ListN.{length, drop}
 use Rattle.model.specs.Control.{keep, asked_from}
 use Rattle.model.specs.Text.{words}
 use Rattle.lines.specs.Control.{ask_of}
 use Rattle.lines.proofs.control.wish_of.Given as goal
 
-abbrev pub invariant-loop-at : goal.invariant-loop-at
-invariant-loop-at l = (l.at ≤ length l.text)
-    × (asked_from (ask_of l.wish) l.controller (words (drop l.at l.text)) ≡ asked_from keep l.controller (words l.text))
-
-abbrev pub decreases-loop-at : goal.decreases-loop-at
-decreases-loop-at l = length l.text - l.at
+abbrev pub invariant-loop-word : goal.invariant-loop-word
+invariant-loop-word l =
+    (goal.iterator-loop-word).can_next l.word-iterator × (goal.iterator-loop-word).is_finite l.word-iterator
+    × (asked_from (ask_of l.wish) l.controller (words l.word-iterator.text.now) ≡ asked_from keep l.controller (words l.text))

@@ -1,22 +1,18 @@
--- `lines::name::setting_named` meets its contract: the settings are the first of the files. Assumes nothing.
-use mathlib.Core.List.{◌++◌}
-use mathlib.Core.Option.{some}
+-- `lines::name::setting_named` meets its contract: the setting of the file. Assumes nothing.
 use mathlib.Core.Path.{ap, sym, ◌∙◌}
-use native.Mathlib.Omega.{arith}
-use Rattle.model.specs.Names.{settings, core_files, controller_files, file_name}
-use Rattle.model.specs.declared.Setting.TheVariants.{CpuWeight}
-use Rattle.model.specs.declared.File.TheVariants.{Value}
-use Rattle.lines.specs.Name.{as_setting_name}
-use Rattle.lines.proofs.NameLaws.{front_at, front-none}
+use Rattle.std.specs.Prelude.{Some}
+use Rattle.lines.proofs.NameLaws.{found_setting, no-setting, setting-found}
 use Rattle.lines.proofs.name.setting_named.Goals as goal
 
--- another file's name, or none's
-pub returns-then-place-ge-SETTINGS : goal.returns-then-place-ge-SETTINGS
-returns-then-place-ge-SETTINGS c = ap as_setting_name (sym (front-none Value file_name c.args.file.now (core_files ++ controller_files) settings c.file_place-place.ensures (omega arith)))
+pub returns-in_err-s : goal.returns-in_err-s
+returns-in_err-s c =
+    c.from_residual.ensures ∙ ap found_setting (sym c.in_err-s.was ∙ c.file_named.ensures) ∙ setting-found c.args.file.now
 
--- a setting's
-pub returns : goal.returns
-returns c =
-    ap as_setting_name
-    (ap some c.setting_at.ensures
-    ∙ sym (front_at Value file_name c.args.file.now (core_files ++ controller_files) settings c.file_place-place.ensures CpuWeight (omega arith)))
+pub returns-in-Value : goal.returns-in-Value
+returns-in-Value c =
+    ap (λ f. found_setting (Some f)) (sym c.in-Value.is) ∙ ap found_setting (sym c.in_ok-s.was ∙ c.file_named.ensures)
+    ∙ setting-found c.args.file.now
+
+pub returns-in_default : goal.returns-in_default
+returns-in_default c =
+    no-setting _ c.in_default.not-Value ∙ ap found_setting (sym c.in_ok-s.was ∙ c.file_named.ensures) ∙ setting-found c.args.file.now

@@ -1,14 +1,36 @@
--- `lines::value::parse_maximum` meets its contract: the limit of the one word decides. Assumes nothing.
-use mathlib.Core.Path.{sym, ◌∙◌}
-use Rattle.lines.proofs.ValueLaws.{maximum-read}
+-- `lines::value::parse_maximum` meets its contract: the limit of the one word. Assumes nothing.
+use mathlib.Core.Path.{ap, sym, ◌∙◌}
+use Rattle.model.specs.Functions.{mapped}
+use Rattle.model.specs.Text.{line_words}
+use Rattle.model.specs.Settings.{limit_word, value_of}
+use Rattle.model.specs.declared.SettingValue.TheVariants.{Maximum}
+use Rattle.lines.specs.Value.{clipped}
+use Rattle.text.proofs.NumberLaws.{sole-read, sole-unread}
+use Rattle.lines.proofs.ValueLaws.{maximum-clipped}
 use Rattle.lines.proofs.value.parse_maximum.Goals as goal
 
-pub returns-in_default : goal.returns-in_default
-returns-in_default c =
-    let a = c.args in
-    maximum-read a.resource a.line.now _ _ c.sole_word.ensures (sym c.in_default.is ∙ c.parse_limit-limit.ensures)
+-- not one word
+pub returns-in_err-sole_word : goal.returns-in_err-sole_word
+unfolding value_of
+returns-in_err-sole_word c =
+    let r = c.args.resource in
+    c.from_residual.ensures
+    ∙ sym (ap (λ o. mapped clipped (mapped (Maximum r) o)) (sole-unread limit_word (line_words c.args.line.now) c.in_err-sole_word.ensures))
+
+-- no limit
+pub returns-in_err-limit : goal.returns-in_err-limit
+unfolding value_of
+returns-in_err-limit c =
+    let r = c.args.resource in
+    c.from_residual-in_err-limit.ensures
+    ∙ ap (mapped (Maximum r)) (sym c.in_err-limit.was ∙ c.parse_limit.ensures)
+    ∙ sym (maximum-clipped r _)
+    ∙ sym (ap (λ o. mapped clipped (mapped (Maximum r) o)) (sole-read limit_word (line_words c.args.line.now) _ c.in_ok-sole_word.ensures))
 
 pub returns : goal.returns
+unfolding value_of
 returns c =
-    let a = c.args in
-    maximum-read a.resource a.line.now _ _ c.sole_word.ensures (sym c.in-Of.is ∙ c.parse_limit-limit.ensures)
+    let r = c.args.resource in
+    ap (mapped (Maximum r)) (sym c.in_ok-limit.was ∙ c.parse_limit.ensures)
+    ∙ sym (maximum-clipped r _)
+    ∙ sym (ap (λ o. mapped clipped (mapped (Maximum r) o)) (sole-read limit_word (line_words c.args.line.now) _ c.in_ok-sole_word.ensures))

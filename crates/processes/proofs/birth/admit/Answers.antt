@@ -1,17 +1,20 @@
 -- `processes::birth::admit` meets its contract: what its checks answer is the verdict, and a process that enters the root is the
 -- definition's effect. Assumes nothing.
-use mathlib.Core.Path.{sym, ◌∙◌}
-use Rattle.tree.proofs.CallLaws.{call_stays}
+use Rattle.model.specs.Calls.{checks, verdict}
+use Rattle.tree.proofs.AnswerLaws.{refused}
 use Rattle.processes.proofs.BirthLaws.{admit-vacant, admitted}
 use Rattle.processes.proofs.birth.admit.Goals as goal
 
 -- refused
-pub returns-in_default : goal.returns-in_default
-returns-in_default c = call_stays _ c.requires _ _ _ (c.vet_admit-vetted.ensures c.args.user) c.in_default.is
+pub returns-in_err-vet_free : goal.returns-in_err-vet_free
+unfolding verdict checks
+returns-in_err-vet_free c = refused _ _ c.requires _ _ c.in_err-vet_free.ensures c.from_residual.ensures.1
 
 pub enter-requires : goal.enter-requires
-enter-requires c = admit-vacant _ c.requires _ _ (sym (c.vet_admit-vetted.ensures c.args.user) ∙ c.in-Done.is)
+unfolding verdict checks
+enter-requires c = admit-vacant _ c.requires _ c.args.user c.in_ok-vet_free.ensures
 
 -- done
 pub returns : goal.returns
-returns c = admitted _ c.requires _ _ (sym (c.vet_admit-vetted.ensures c.args.user) ∙ c.in-Done.is) _ c.enter.ensures
+unfolding verdict checks
+returns c = admitted _ c.requires _ _ c.in_ok-vet_free.ensures _ c.enter.ensures

@@ -2,11 +2,8 @@
 -- they were. The measure is the depth of the group reached. Assumes nothing.
 use native.Mathlib.Omega.{arith}
 use mathlib.Core.Path.{sym, ◌∙◌}
-use Rattle.processes.proofs.CollectLaws.{zombie-low, passing-start, passing-low, passing-countable, passing-less, passing-next, passing-adjustable, forgotten}
+use Rattle.processes.proofs.CollectLaws.{passing-start, passing-low, passing-countable, passing-less, passing-next, passing-adjustable, forgotten}
 use Rattle.processes.proofs.collect.forget.Goals as goal
-
-pub zombie_group-here-requires : goal.zombie_group-here-requires
-zombie_group-here-requires c = zombie-low _ _ c.requires
 
 pub loop-tree-init : goal.loop-tree-init
 loop-tree-init c = passing-start _ _ c.requires _ c.zombie_group-here.ensures
@@ -30,9 +27,6 @@ loop-tree-preserved c =
 
 pub adjust_up-requires : goal.adjust_up-requires
 adjust_up-requires c = passing-adjustable _ _ c.requires _ _ c.loop-tree.invariant (sym c.is_live.ensures ∙ c.loop-tree-test.false) _ (omega arith)
-
-pub clear_process-requires : goal.clear_process-requires
-clear_process-requires c = record { long = c.adjust_up.ensures.long; low = zombie-low _ _ c.requires }
 
 pub returns : goal.returns
 returns c =

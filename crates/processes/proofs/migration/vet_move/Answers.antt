@@ -1,29 +1,7 @@
 -- `processes::migration::vet_move` meets its contract: its tests are the checks, in their order. Assumes nothing.
-use mathlib.Core.Path.{sym, ◌∙◌}
-use Rattle.model.specs.Checks.{done, barred, lacking, past, met}
-use Rattle.model.proofs.CheckLaws.{says_first}
-use Rattle.processes.specs.Migration.{move_checks}
 use Rattle.processes.proofs.PlaceLaws.{standing-low}
-use Rattle.processes.proofs.MigrationLaws.{may-moved, meeting-low}
+use Rattle.processes.proofs.MigrationLaws.{meeting-low}
 use Rattle.processes.proofs.migration.vet_move.Goals as goal
 
 pub may_move-requires : goal.may_move-requires
 may_move-requires c = (standing-low _ _ c.requires.from, meeting-low c.requires)
-
--- 13: the user may not move it
-pub returns-then-not-may_move : goal.returns-then-not-may_move
-unfolding move_checks
-returns-then-not-may_move c =
-    says_first (lacking (sym (may-moved c.requires c.args.user _ c.may_move.ensures) ∙ c.if-not-may_move.true))
-
--- 16: the inner-process rule
-pub returns-then-is_closed : goal.returns-then-is_closed
-unfolding move_checks
-returns-then-is_closed c =
-    says_first (met (sym (may-moved c.requires c.args.user _ c.may_move.ensures) ∙ c.if-not-may_move.false) (barred (sym c.is_closed.ensures ∙ c.if-is_closed.true)))
-
--- done
-pub returns : goal.returns
-unfolding move_checks
-returns c =
-    says_first (met (sym (may-moved c.requires c.args.user _ c.may_move.ensures) ∙ c.if-not-may_move.false) (past (sym c.is_closed.ensures ∙ c.if-is_closed.false) done))

@@ -1,24 +1,10 @@
--- `processes::migration::vet_number` meets its contract: its tests are the checks, in their order. Assumes nothing.
-use Rattle.processes.specs.Migration.{number_checks}
-use Rattle.processes.proofs.MigrationLaws.{names}
+-- `processes::migration::vet_number` meets its contract: a number that is not 0 is refused where its process is. Assumes nothing.
+use Rattle.std.proofs.lemmas.Result.{err_from_is_err_and}
+use Rattle.tree.specs.Layout.{view}
+use Rattle.processes.proofs.MigrationLaws.{number-refused}
 use Rattle.processes.proofs.migration.vet_number.Goals as goal
 
--- 22: the number is 0
-pub returns-then-figure-eq0 : goal.returns-then-figure-eq0
-unfolding number_checks
-returns-then-figure-eq0 c = search names depth 12 fits 4000
-
--- 3: above the range
-pub returns-then-figure-ge-PROCESSES : goal.returns-then-figure-ge-PROCESSES
-unfolding number_checks
-returns-then-figure-ge-PROCESSES c = search names depth 12 fits 4000
-
--- 3: not live
-pub returns-then-not-is_process : goal.returns-then-not-is_process
-unfolding number_checks
-returns-then-not-is_process c = search names depth 12 fits 4000
-
--- a live process
-pub returns : goal.returns
-unfolding number_checks
-returns c = search names depth 12 fits 4000
+pub returns-in_err-vet_process : goal.returns-in_err-vet_process
+returns-in_err-vet_process c =
+    let p = err_from_is_err_and c.from_residual.result c.from_residual.ensures.1 in
+    rw (p.1, p.2) (number-refused (view c.args.tree.now) c.args.number _ c.if-number-eq0.false c.in_err-vet_process.ensures)

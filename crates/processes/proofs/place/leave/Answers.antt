@@ -1,11 +1,8 @@
 -- `processes::place::leave` meets its contract: one less in its group and above it, one member less there, one zombie more there and above,
 -- then the place where it ended. Assumes nothing.
 use native.Mathlib.Omega.{arith}
-use Rattle.processes.proofs.PlaceLaws.{leave-adjustable, leave-countable, standing-low, ended-adjustable, ended-rows, exited}
+use Rattle.processes.proofs.PlaceLaws.{leave-adjustable, leave-countable, ended-adjustable, ended-rows, exited}
 use Rattle.processes.proofs.place.leave.Goals as goal
-
-pub process_group-group-requires : goal.process_group-group-requires
-process_group-group-requires c = standing-low _ _ c.requires
 
 pub adjust_up-requires : goal.adjust_up-requires
 adjust_up-requires c = leave-adjustable _ _ c.requires _ _ c.process_group-group.ensures (omega arith)

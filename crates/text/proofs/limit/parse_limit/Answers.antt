@@ -1,22 +1,27 @@
 -- `text::limit::parse_limit` meets its contract: a limit is "max" or a number. Assumes nothing.
-use mathlib.Core.Path.{sym, ◌∙◌}
+use Rattle.std.proofs.Common.{◌≡◌, ap, sym, ◌∙◌, Some, None}
+use Rattle.model.specs.Text.{bytes, same_bytes}
+use Rattle.text.proofs.SameLaws.{same-pointwise}
 use Rattle.text.proofs.LimitLaws.{limit-max, limit-number}
+use Rattle.text.proofs.limit.parse_limit.Goals.{After-eq}
 use Rattle.text.proofs.limit.parse_limit.Goals as goal
 
+is-max : (c : After-eq) → same_bytes c.args.word.now (bytes "max") ≡ c.eq.result
+is-max c =
+    ap (same_bytes c.args.word.now) (sym c.as_slice.ensures) ∙ same-pointwise c.args.word.now c.as_slice.result.now ∙ sym c.eq.ensures
+
 -- "max"
-pub returns-then-is_same : goal.returns-then-is_same
-returns-then-is_same c = let a = c.args in limit-max a.word.now (sym c.is_same.ensures ∙ c.if-is_same.true)
+pub returns-then-eq : goal.returns-then-eq
+returns-then-eq c =
+    limit-max c.args.word.now (is-max (goal.at.returns-then-eq c).After-eq ∙ c.if-eq.true)
 
 -- no number
-pub returns-in_default : goal.returns-in_default
-returns-in_default c =
-    let a = c.args in
-    limit-number a.word.now (sym c.is_same.ensures ∙ c.if-is_same.false) _
-    (sym c.in_default.is ∙ c.parse_number-number.ensures)
+pub returns-in_err-n : goal.returns-in_err-n
+returns-in_err-n c =
+    c.from_residual.ensures
+    ∙ limit-number c.args.word.now (is-max (goal.at.returns-in_err-n c).After-eq ∙ c.if-eq.false) None c.in_err-n.ensures
 
 -- a figure
 pub returns : goal.returns
 returns c =
-    let a = c.args in
-    limit-number a.word.now (sym c.is_same.ensures ∙ c.if-is_same.false) _
-    (sym c.in-Figure.is ∙ c.parse_number-number.ensures)
+    limit-number c.args.word.now (is-max (goal.at.returns c).After-eq ∙ c.if-eq.false) (Some c.in_ok-n.n) c.in_ok-n.ensures

@@ -1,18 +1,23 @@
--- `text::line::sole_word` meets its contract: by how many words the line was split into. Assumes nothing.
-use native.Mathlib.Omega.{arith}
-use Rattle.text.proofs.SplitLaws.{split-as, one_word, other-words}
+-- `text::line::sole_word` meets its contract: a first word with no second. Assumes nothing.
+use Rattle.std.proofs.Common.{ap, sym, ◌∙◌}
+use Rattle.model.specs.Text.{words}
+use Rattle.text.specs.Line.{sole_word}
+use Rattle.text.proofs.WordLaws.{sole-none, sole-alone, sole-more}
 use Rattle.text.proofs.line.sole_word.Goals as goal
 
--- not one word
-pub returns-in_default : goal.returns-in_default
-returns-in_default c = other-words c.args.line.now _ c.split-words.ensures c.in_default.not-One
+pub returns-in_err-word : goal.returns-in_err-word
+returns-in_err-word c =
+    rw c.from_residual.ensures
+    (ap (λ l. sole_word (words l)) (sym c.text_of.ensures.text) ∙ sole-none c.text_of.result.now c.in_err-word.ensures)
 
-pub slice_bounds-result-count : goal.slice_bounds-result-count
-slice_bounds-result-count c = omega (arith, split-as c.args.line.now c.split-words.ensures c.in-One.is)
+pub returns-then-is_some : goal.returns-then-is_some
+returns-then-is_some c =
+    ap (λ l. sole_word (words l)) (sym c.text_of.ensures.text)
+    ∙ sole-more c.text_of.result.now c.in_ok-word.word.now c.in_ok-word.rest.now c.in_ok-word.ensures
+    c.cut_word-2.result c.cut_word-2.ensures (sym c.is_some.ensures ∙ c.if-is_some.true)
 
-pub slice_bounds-result-start : goal.slice_bounds-result-start
-slice_bounds-result-start c = omega (arith, split-as c.args.line.now c.split-words.ensures c.in-One.is)
-
--- the word
 pub returns : goal.returns
-returns c = one_word c.args.line.now _ (split-as c.args.line.now c.split-words.ensures c.in-One.is)
+returns c =
+    ap (λ l. sole_word (words l)) (sym c.text_of.ensures.text)
+    ∙ sole-alone c.text_of.result.now c.in_ok-word.word.now c.in_ok-word.rest.now c.in_ok-word.ensures
+    c.cut_word-2.result c.cut_word-2.ensures (sym c.is_some.ensures ∙ c.if-is_some.false)

@@ -1,41 +1,26 @@
--- `text::number::parse_number` meets its contract: the digits from `i` on, after those passed, make the number of the
--- word, and a number only grows by more of them. The measure is what is left of the word. Assumes nothing.
-use mathlib.Core.Path.{sym, ◌∙◌}
-use native.Mathlib.Omega.{arith}
-use Rattle.model.specs.Text.{number_word}
-use Rattle.text.proofs.NumberLaws.{left-none, left-whole, left-byte, left_over, left-more, left_end}
+-- `text::number::parse_number` meets its contract: each digit makes the number ten times as large, up to the largest. Assumes nothing.
+use Rattle.std.proofs.Common.{ap, sym, ◌∙◌, arith}
+use borrow.Author.Tests.{eqb-true, eqb-false}
+use Rattle.model.specs.Functions.{mapped}
+use Rattle.text.specs.Number.{clip}
+use Rattle.text.proofs.NumberLaws.{number-empty, number-start, number-more, number-stop, number-end}
 use Rattle.text.proofs.number.parse_number.Goals as goal
 
--- no number
-pub returns-then-not-is_number : goal.returns-then-not-is_number
-returns-then-not-is_number c =
-    let w = c.args.word.now in
-    left-none (number_word w) (sym c.is_number.ensures ∙ c.if-not-is_number.true)
+pub returns-then-is_empty : goal.returns-then-is_empty
+returns-then-is_empty c = sym (ap (mapped clip) (number-empty c.args.word.now (eqb-true _ _ (sym c.is_empty.ensures ∙ c.if-is_empty.true))))
 
-pub loop-i-init : goal.loop-i-init
-loop-i-init c = (omega arith, omega arith, left-whole _ (sym c.is_number.ensures ∙ c.if-not-is_number.false))
+pub loop-b-init : goal.loop-b-init
+loop-b-init c = (number-start c.args.word.now (eqb-false _ _ (sym c.is_empty.ensures ∙ c.if-is_empty.false)), omega arith)
 
-pub overflow_sub-word : goal.overflow_sub-word
-overflow_sub-word c = omega (arith, left-byte c.args.word.now c.loop-i.i c.loop-i.value c.loop-i.invariant.2 (omega arith))
+pub returns-then-not-is_ascii_digit : goal.returns-then-not-is_ascii_digit
+returns-then-not-is_ascii_digit c =
+    sym (ap (mapped clip) (number-stop c.args.word.now c.loop-b.b-index c.loop-b.value (omega arith) (sym c.is_ascii_digit.ensures.value ∙ c.if-not-is_ascii_digit.true))) ∙ c.loop-b.invariant.0
 
-pub overflow_sub-digit : goal.overflow_sub-digit
-overflow_sub-digit c = omega (arith, left-byte c.args.word.now c.loop-i.i c.loop-i.value c.loop-i.invariant.2 (omega arith))
+pub loop-b-preserved : goal.loop-b-preserved
+loop-b-preserved c =
+    let more = number-more c.args.word.now c.loop-b.b-index c.loop-b.value (omega arith) (sym c.is_ascii_digit.ensures.value ∙ c.if-not-is_ascii_digit.false) c.saturating_add-value.result (omega arith) in
+    (more ∙ c.loop-b.invariant.0, omega arith)
 
--- too large: the largest figure
-pub returns-then-value-digit : goal.returns-then-value-digit
-returns-then-value-digit c =
-    let b = left-byte c.args.word.now c.loop-i.i c.loop-i.value c.loop-i.invariant.2 (omega arith) in
-    left_over c.args.word.now c.loop-i.i c.loop-i.value c.loop-i.invariant.2 (omega arith)
-    c.wide-digit.result c.wide-digit.ensures (omega arith)
-
-pub loop-i-preserved : goal.loop-i-preserved
-loop-i-preserved c = (
-  omega arith,
-  omega arith,
-  left-more c.args.word.now c.loop-i.i c.loop-i.value c.loop-i.invariant.2 (omega arith)
-      c.wide-digit.result c.wide-digit.ensures,
-)
-
--- the figure
 pub returns : goal.returns
-returns c = left_end c.args.word.now c.loop-i.i c.loop-i.value c.loop-i.invariant.2 (omega arith) (omega arith)
+returns c =
+    number-end c.args.word.now c.loop-b.b-index c.loop-b.value (omega arith) (omega arith) ∙ c.loop-b.invariant.0

@@ -1,29 +1,35 @@
 -- `text::write::put_number` meets its contract: the digits before the last are the decimal text of a tenth. Assumes nothing.
-use Rattle.std.proofs.Common.{ℕ, ◌/◌, [], ◌∷◌, ◌++◌, ap, sym, ◌∙◌, arith}
-use Rattle.model.specs.Text.{decimal}
+use Rattle.std.proofs.Common.{ℕ, ◌+◌, ◌%◌, ◌≡◌, List, [], ◌∷◌, ◌++◌, ap, sym, ◌∙◌, arith, add-one}
+use Rattle.std.proofs.Math.Seq.{take-suc-set}
 use Rattle.text.proofs.DecimalLaws.{decimal_digit, decimal-more, length-decimal-digit, length-decimal-more}
-use Rattle.text.proofs.WriteLaws.{appended_then, appended-as}
 use Rattle.text.proofs.write.+put_number.Goals as goal
 
 -- one digit
-pub put_byte-requires : goal.put_byte-requires
-put_byte-requires t c = omega (arith, length-decimal-digit c.args.n c.if-n-lt10.true)
+pub bounds-out-0 : goal.bounds-out-0
+bounds-out-0 t c = omega (arith, length-decimal-digit c.args.n c.if-n-lt10.true)
 
-pub returns-then-n-lt10 : goal.returns-then-n-lt10
-returns-then-n-lt10 t c =
-    appended-as (ap (λ (x : ℕ). x ∷ []) c.digit.ensures ∙ sym (decimal_digit c.args.n c.if-n-lt10.true))
-    c.put_byte.ensures
+pub returns-then-n-lt10-clause-end : goal.returns-then-n-lt10-clause-end
+returns-then-n-lt10-clause-end t c = sym (length-decimal-digit c.args.n c.if-n-lt10.true)
+
+pub returns-then-n-lt10-clause-text : goal.returns-then-n-lt10-clause-text
+returns-then-n-lt10-clause-text t c =
+    let e : c.args.n % 10 ≡ c.args.n = omega arith in
+    take-suc-set c.args.out.now 0 _ (omega (arith, length-decimal-digit c.args.n c.if-n-lt10.true))
+    ∙ rw e (sym (decimal_digit c.args.n c.if-n-lt10.true))
 
 -- the digits before the last, and the last
-pub put_number-last-requires : goal.put_number-last-requires
-put_number-last-requires t c = (omega arith, omega (arith, length-decimal-more c.args.n c.if-n-lt10.false))
+pub put_number-end-requires : goal.put_number-end-requires
+put_number-end-requires t c = (omega arith, omega (arith, length-decimal-more c.args.n c.if-n-lt10.false))
 
-pub put_byte-requires-2 : goal.put_byte-requires-2
-put_byte-requires-2 t c =
-    omega (arith, length-decimal-more c.args.n c.if-n-lt10.false)
+pub bounds-out-end : goal.bounds-out-end
+bounds-out-end t c = omega (arith, length-decimal-more c.args.n c.if-n-lt10.false)
 
-pub returns : goal.returns
-returns t c =
-    appended-as
-    (ap (λ (x : ℕ). decimal (c.args.n / 10) ++ (x ∷ [])) c.digit-2.ensures ∙ sym (decimal-more c.args.n c.if-n-lt10.false))
-    (appended_then c.put_number-last.ensures c.put_byte-2.ensures)
+pub returns-clause-end : goal.returns-clause-end
+returns-clause-end t c = omega (arith, length-decimal-more c.args.n c.if-n-lt10.false)
+
+pub returns-clause-text : goal.returns-clause-text
+returns-clause-text t c =
+    rw add-one
+    (take-suc-set c.put_number-end.new.out c.put_number-end.result _ (omega (arith, length-decimal-more c.args.n c.if-n-lt10.false))
+    ∙ ap (λ (l : List ℕ). l ++ ((48 + c.args.n % 10) ∷ [])) c.put_number-end.ensures.text
+    ∙ sym (decimal-more c.args.n c.if-n-lt10.false))

@@ -10,8 +10,8 @@ use Rattle.model.specs.CommonAncestor.{entry_at}
 use Rattle.model.specs.declared.GroupId.{GroupId}
 use Rattle.tree.specs.Layout.{view}
 use Rattle.tree.specs.Kept.{KeptAt}
-use Rattle.tree.proofs.KeptLaws.{kept_low}
 use Rattle.tree.proofs.MeetingLaws.{Levelled, levelled-at, comparing-start, comparing-few, comparing-next, comparing-less, comparing-end}
+use Rattle.tree.proofs.EqualLaws.{unequal, not_unequal}
 use Rattle.tree.proofs.chain.common_ancestor.Goals as goal
 
 -- the walk begins at the smaller depth
@@ -19,41 +19,29 @@ begun : (xs : List ℕ) {g h m n : ℕ} {x y : GroupId} → KeptAt xs g → Kept
     → x.0 ≡ entry_at (view xs) g (min (depths (view xs) g) m) → y.0 ≡ entry_at (view xs) h (min (depths (view xs) h) n) → Levelled (view xs) g h x y
 begun xs kg kh f k p q = levelled-at _ kg.kept.formed.sound kg.live kh.live _ _ f k p q
 
-pub depth-requires : goal.depth-requires
-depth-requires c = search kept_low depth 6
-
-pub ancestor_at-a-requires : goal.ancestor_at-a-requires
-ancestor_at-a-requires c = c.requires.0
-
-pub depth-requires-2 : goal.depth-requires-2
-depth-requires-2 c = search kept_low depth 6
-
-pub ancestor_at-b-requires : goal.ancestor_at-b-requires
-ancestor_at-b-requires c = c.requires.1
-
-pub loop-a-init : goal.loop-a-init
-loop-a-init c =
+pub loop-b-init : goal.loop-b-init
+loop-b-init c =
     comparing-start _ c.requires.0.kept.formed.sound (begun _ c.requires.0 c.requires.1 c.depth.ensures c.depth-2.ensures c.ancestor_at-a.ensures c.ancestor_at-b.ensures)
 
 pub parent-a-requires : goal.parent-a-requires
-parent-a-requires c = c.requires.0.kept.formed.sound.range _ c.loop-a.invariant.left
+parent-a-requires c = c.requires.0.kept.formed.sound.range _ c.loop-b.invariant.left
 
 pub parent-b-requires : goal.parent-b-requires
-parent-b-requires c = c.requires.0.kept.formed.sound.range _ c.loop-a.invariant.right
+parent-b-requires c = c.requires.0.kept.formed.sound.range _ c.loop-b.invariant.right
 
 pub overflow_add-compared : goal.overflow_add-compared
 overflow_add-compared c =
     omega (
       arith,
-      comparing-few _ c.requires.0.kept.formed.sound (begun _ c.requires.0 c.requires.1 c.depth.ensures c.depth-2.ensures c.ancestor_at-a.ensures c.ancestor_at-b.ensures) c.loop-a.invariant,
+      comparing-few _ c.requires.0.kept.formed.sound (begun _ c.requires.0 c.requires.1 c.depth.ensures c.depth-2.ensures c.ancestor_at-a.ensures c.ancestor_at-b.ensures) c.loop-b.invariant,
     )
 
-pub loop-a-smaller : goal.loop-a-smaller
-loop-a-smaller c = comparing-less _ c.requires.0.kept.formed.sound c.loop-a.invariant c.loop-a-test.true c.parent-a.ensures
+pub loop-b-smaller : goal.loop-b-smaller
+loop-b-smaller c = comparing-less _ c.requires.0.kept.formed.sound c.loop-b.invariant (unequal c.ne.ensures c.loop-b-test.true) c.parent-a.ensures
 
-pub loop-a-preserved : goal.loop-a-preserved
-loop-a-preserved c = comparing-next _ c.requires.0.kept.formed.sound c.loop-a.invariant c.loop-a-test.true c.parent-a.ensures c.parent-b.ensures
+pub loop-b-preserved : goal.loop-b-preserved
+loop-b-preserved c = comparing-next _ c.requires.0.kept.formed.sound c.loop-b.invariant (unequal c.ne.ensures c.loop-b-test.true) c.parent-a.ensures c.parent-b.ensures
 
 pub returns : goal.returns
 returns c =
-    comparing-end _ c.requires.0.kept.formed.sound (begun _ c.requires.0 c.requires.1 c.depth.ensures c.depth-2.ensures c.ancestor_at-a.ensures c.ancestor_at-b.ensures) c.loop-a.invariant c.loop-a-test.false
+    comparing-end _ c.requires.0.kept.formed.sound (begun _ c.requires.0 c.requires.1 c.depth.ensures c.depth-2.ensures c.ancestor_at-a.ensures c.ancestor_at-b.ensures) c.loop-b.invariant (not_unequal c.ne.ensures c.loop-b-test.false)

@@ -6,8 +6,8 @@ use Rattle.tree.specs.Layout.{view}
 use Rattle.tree.proofs.MeetingLaws.{Comparing}
 use Rattle.tree.proofs.chain.common_ancestor.Given as goal
 
-abbrev pub invariant-loop-a : goal.invariant-loop-a
-invariant-loop-a l = Comparing (view l.t) l.initial.a l.initial.b l.a l.b l.compared
+abbrev pub invariant-loop-b : goal.invariant-loop-b
+invariant-loop-b l = Comparing (view l.t) l.initial.a l.initial.b l.a l.b l.compared
 
-abbrev pub decreases-loop-a : goal.decreases-loop-a
-decreases-loop-a l = depths (view l.t) l.a.0
+abbrev pub decreases-loop-b : goal.decreases-loop-b
+decreases-loop-b l = depths (view l.t) l.a.0

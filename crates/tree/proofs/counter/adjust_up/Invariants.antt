@@ -5,8 +5,8 @@ use Rattle.tree.specs.Layout.{view}
 use Rattle.tree.proofs.AdjustLaws.{Rising}
 use Rattle.tree.proofs.counter.adjust_up.Given as goal
 
-abbrev pub invariant-loop-here : goal.invariant-loop-here
-invariant-loop-here l = Rising l.initial.t l.c l.initial.here.0 l.more l.less l.t l.here.0
+abbrev pub invariant-loop-t : goal.invariant-loop-t
+invariant-loop-t l = Rising l.initial.t l.c l.initial.here.0 l.more l.less l.t l.here.0
 
-abbrev pub decreases-loop-here : goal.decreases-loop-here
-decreases-loop-here l = depths (view l.initial.t) l.here.0
+abbrev pub decreases-loop-t : goal.decreases-loop-t
+decreases-loop-t l = depths (view l.initial.t) l.here.0

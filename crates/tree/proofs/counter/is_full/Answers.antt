@@ -1,15 +1,8 @@
 -- `tree::counter::is_full` meets its contract. Assumes nothing.
 use Prim.Native.Nat.{◌+◌}
 use mathlib.Core.Path.{refl, ap}
-use Rattle.tree.proofs.KeptLaws.{kept_low}
 use Rattle.tree.proofs.ActingLaws.{over-same, acting-own}
 use Rattle.tree.proofs.counter.is_full.Goals as goal
-
-pub sum-requires : goal.sum-requires
-sum-requires c = kept_low c.requires.0
-
-pub is_past-requires : goal.is_past-requires
-is_past-requires c = kept_low c.requires.0
 
 pub returns : goal.returns
 returns c =

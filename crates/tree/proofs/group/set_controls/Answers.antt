@@ -3,7 +3,4 @@ use Rattle.tree.proofs.SetterLaws.{wrote-controls}
 use Rattle.tree.proofs.group.set_controls.Goals as goal
 
 pub returns : goal.returns
-returns c =
-    wrote-controls c.requires _ _ _ _ _ _ _ _
-    c.flag.ensures c.flag-2.ensures c.flag-3.ensures c.flag-4.ensures
-    c.set_word.ensures c.set_word-2.ensures c.set_word-3.ensures c.set_word-4.ensures
+returns c = wrote-controls c.requires _ c.set_word.ensures c.set_word-2.ensures c.set_word-3.ensures c.set_word-4.ensures

@@ -1,20 +1,14 @@
 -- `tree::rule::is_taken` meets its contract: where the number is not live, the zombies inside are counted in its row. Assumes nothing.
 use Prim.Native.Nat.{ℕ}
-use mathlib.Core.Bool.{not, ◌||◌}
+use mathlib.Core.Bool.{not}
 use mathlib.Core.Path.{ap, sym, ◌∙◌}
 use lib.Dec.{eqb}
-use Rattle.model.specs.Zombies.{on_path}
 use Rattle.tree.specs.Layout.{view}
 use Rattle.tree.specs.declared.sum.Counter.TheVariants.{Zombies}
 use Rattle.tree.proofs.CountLaws.{group_taken-counted}
 use Rattle.tree.proofs.rule.is_taken.Goals as goal
 
-pub returns-then-is_live : goal.returns-then-is_live
-returns-then-is_live c =
-    let a = c.args in
-    sym (ap (λ b. b || on_path (view a.t.now) a.g.0) (sym c.is_live.ensures ∙ c.if-is_live.true))
-
-pub returns : goal.returns
-returns c =
+pub returns-else-is_live : goal.returns-else-is_live
+returns-else-is_live c =
     ap (λ (n : ℕ). not (eqb n 0)) (c.sum.ensures ∙ c.requires.0.sums Zombies c.args.g.0)
     ∙ group_taken-counted (view c.args.t.now) c.args.g.0 (sym c.is_live.ensures ∙ c.if-is_live.false)

@@ -1,9 +1,0 @@
--- `devices::limit::limit_in` meets its contract. Assumes nothing.
-use borrow.Author.Tests.{eq-eqb, ne_eqb}
-use Rattle.devices.proofs.limit.limit_in.Goals as goal
-
-pub returns-then-word-eq0 : goal.returns-then-word-eq0
-returns-then-word-eq0 c = simp (eq-eqb _ _ c.if-word-eq0.true)
-
-pub returns : goal.returns
-returns c = simp (ne_eqb _ _ c.if-word-eq0.false)
