@@ -89,3 +89,6 @@ module _ (leaving : Controls) where
   held_in_one_pass t g =
       ap (any groups) (fun_ext (λ k. any-in-if (child_of g k (cores t k)) (sets t k) _))
       ∙ any-in-any groups (λ c k. child_of g k (cores t k) && sets t k c) _
+
+-- what the one function that makes both searches needs
+pub ruleset held_in_both = (any_last, any_end, none_held, held_in_one_pass)

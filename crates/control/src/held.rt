@@ -29,7 +29,7 @@ fn child_holds_any(t: &Tree, g: GroupId, k: GroupId, leaving: PerController<bool
 }
 
 // Whether one of those that leave is in the set of a live child of g. No pass over the groups where none leaves.
-#[tactic(auto, using(crate::proofs::HeldLaws::any_last, crate::proofs::HeldLaws::any_end, crate::proofs::HeldLaws::none_held, crate::proofs::HeldLaws::held_in_one_pass))]
+#[tactic(auto, using(crate::proofs::HeldLaws::held_in_both))]
 pub fn is_any_held(t: &Tree, g: GroupId, leaving: PerController<bool>) -> bool
     ensures { result ≡ is_any_held (view t.now) g.0 (at_controller leaving) }
 {
