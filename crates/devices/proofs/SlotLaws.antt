@@ -1,9 +1,11 @@
 -- A slot after a line, and the slot of a device. Assumes nothing.
-use Prim.Native.Nat.{ℕ}
+use Prim.Native.Nat.{ℕ, suc, ◌≤◌, ◌<◌}
 use mathlib.Core.List.{List, [], ◌∷◌}
 use mathlib.Core.Logic.{◌≢◌}
 use mathlib.Core.Path.{◌≡◌, refl, ap, sym, ◌∙◌, fun_ext}
 use lib.Dec.{eqb}
+use lib.ListN.{length, get_or, drop, drop_of_length-le}
+use lib.Seq.{drop-cons}
 use borrow.Author.Tests.{eqb-true, eq-eqb, ne_eqb}
 use Rattle.model.specs.Functions.{All}
 use Rattle.model.specs.Devices.{changed, Pairs}
@@ -33,6 +35,21 @@ module _ (w : ℕ) (x : Slot) (xs : List Slot) where
 
   pub slot-later : x.device ≢ w → slot_of w (x ∷ xs) ≡ slot_of w xs
   slot-later h = rw (ne_eqb x.device w h)
+
+-- among the slots from a place on
+module _ (w : ℕ) (xs : List Slot) where
+  pub slot-of-none : (k : ℕ) (x : Slot) → length xs ≤ k → x ≡ unlimited w → x ≡ slot_of w (drop k xs)
+  slot-of-none k x h e = rw (drop_of_length-le xs {i = k} h) e
+
+  module _ (k : ℕ) (l : k < length xs) where
+    first : drop k xs ≡ get_or xs k free_slot ∷ drop (suc k) xs
+    first = drop-cons xs k free_slot l
+
+    pub slot-at : (get_or xs k free_slot).device ≡ w → get_or xs k free_slot ≡ slot_of w (drop k xs)
+    slot-at h = rw first (sym (slot-here w (get_or xs k free_slot) (drop (suc k) xs) h))
+
+    pub slot-past : (get_or xs k free_slot).device ≢ w → (m : ℕ) (x : Slot) → m ≡ suc k → x ≡ slot_of w (drop m xs) → x ≡ slot_of w (drop k xs)
+    slot-past h m x e f = f ∙ ap (λ j. slot_of w (drop j xs)) e ∙ rw first (sym (slot-later w (get_or xs k free_slot) (drop (suc k) xs) h))
 
 pub slot-device : (w : ℕ) (xs : List Slot) → (slot_of w xs).device ≡ w
 slot-device w [] = refl

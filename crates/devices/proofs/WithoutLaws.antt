@@ -6,18 +6,15 @@ use mathlib.Core.List.{List, [], ◌∷◌, ◌++◌}
 use mathlib.Core.Logic.{◌≢◌}
 use mathlib.Core.Path.{◌≡◌, refl, ap, sym, ◌∙◌}
 use lib.Dec.{eqb}
-use lib.ListN.{length, get_or, set, take, drop, length-set}
-use lib.Seq.{get_or-set_same}
-use borrow.Rule.Slice.PartMut.{put_mid, mid_of}
+use lib.ListN.{length, get_or}
 use Rattle.std.specs.Prelude.{Some, None}
 use Rattle.std.specs.List.{remove, position, position_from}
 use Rattle.std.proofs.lemmas.Option.{none-some}
-use Rattle.std.proofs.lemmas.List.{take-set, drop-set-lt}
 use Rattle.std.proofs.lemmas.List.Quantifiers.{position-Some}
 use Rattle.std.proofs.lemmas.Iterator.Adapters.{position_from-zero}
-use Rattle.std.proofs.lemmas.Slice.{put_mid-rotated}
 use borrow.Author.Tests.{eq-eqb, ne_eqb}
 use Rattle.model.specs.Functions.{All}
+use Rattle.model.specs.Sizes.{most_devices}
 use Rattle.model.specs.Devices.{DeviceLimits, all_max, with_device, Ascending}
 use Rattle.model.specs.declared.Limit.{Limit}
 use Rattle.model.specs.declared.Key.{Key}
@@ -92,6 +89,19 @@ module _ (w : ℕ) (some : w ≢ 0) where
         ∙ ap (λ (m : List DeviceLimits). line_of x ∷ m) (without-below (suc (x.device - 1)) xs (omega arith) (ascending-rest n x xs t a))
         ∙ sym (old ∙ with-below (w - 1) l (line_of x) (table_of xs) (omega arith) ∙ entered-max (w - 1) l (line_of x ∷ table_of xs) max))))
 
+-- each place of four taken out
+moved : (xs : List Slot) (f : Slot) → length xs ≡ most_devices
+    → (get_or xs 1 free_slot ∷ get_or xs 2 free_slot ∷ get_or xs 3 free_slot ∷ f ∷ [] ≡ remove xs 0 ++ (f ∷ []))
+    × (get_or xs 0 free_slot ∷ get_or xs 2 free_slot ∷ get_or xs 3 free_slot ∷ f ∷ [] ≡ remove xs 1 ++ (f ∷ []))
+    × (get_or xs 0 free_slot ∷ get_or xs 1 free_slot ∷ get_or xs 3 free_slot ∷ f ∷ [] ≡ remove xs 2 ++ (f ∷ []))
+    × (get_or xs 0 free_slot ∷ get_or xs 1 free_slot ∷ get_or xs 2 free_slot ∷ f ∷ [] ≡ remove xs 3 ++ (f ∷ []))
+moved (a ∷ b ∷ c ∷ d ∷ []) f h = (refl, refl, refl, refl)
+moved [] f h = absurd (omega arith)
+moved (a ∷ []) f h = absurd (omega arith)
+moved (a ∷ b ∷ []) f h = absurd (omega arith)
+moved (a ∷ b ∷ c ∷ []) f h = absurd (omega arith)
+moved (a ∷ b ∷ c ∷ d ∷ e ∷ xs) f h = absurd (omega arith)
+
 -- by where its slot stands
 module _ (w : ℕ) where
   nowhere : (n : ℕ) (xs : List Slot) → position_from (is_of w) n xs ≡ None → xs ≡ without w xs
@@ -113,14 +123,25 @@ module _ (w : ℕ) where
   somewhere (x ∷ xs) (suc i) l y n =
       rw (n 0 (omega arith)) (ap (λ (l : List Slot). x ∷ l) (somewhere xs i (omega arith) y (λ k h. n (suc k) (omega arith))))
 
-  -- its slot made free, and taken to the end
-  pub without-at : (xs ys : List Slot) (i k : ℕ) (f : Slot) → position (is_of w) xs ≡ Some i → length xs ≤ i + k → f ≡ free_slot
-      → ys ≡ drop 1 (mid_of i k (set xs i f)) ++ take 1 (mid_of i k (set xs i f)) → put_mid i k (set xs i f) ys ≡ without w xs
-  without-at xs ys i k f e l z r =
-      let h = position-Some (is_of w) xs i free_slot e in
-      let few : length (set xs i f) ≤ i + k = rw length-set l in
-      let low : i < length (set xs i f) = rw length-set h.0 in
-      let last : get_or (set xs i f) i free_slot ≡ free_slot = get_or-set_same xs i f free_slot h.0 ∙ z in
-      let front : take i (set xs i f) ≡ take i xs = take-set xs i f in
-      let back : drop (suc i) (set xs i f) ≡ drop (suc i) xs = drop-set-lt (suc i) xs i f (omega arith) in
-      put_mid-rotated i k (set xs i f) ys free_slot low few r ∙ rw (last, front, back) (somewhere xs i h.0 h.1 h.2)
+  -- the slots but that one, and a free slot behind them
+  module _ (xs : List Slot) (i : ℕ) (f : Slot) (long : length xs ≡ most_devices) (e : position (is_of w) xs ≡ Some i) (z : f ≡ free_slot) where
+    abbrev at : ℕ → Slot
+    at k = get_or xs k free_slot
+
+    found : (i < length xs) × (is_of w (at i) ≡ true) × ((k : ℕ) → k < i → is_of w (at k) ≡ false)
+    found = position-Some (is_of w) xs i free_slot e
+
+    taken : (k : ℕ) → i ≡ k → remove xs k ++ (f ∷ []) ≡ without w xs
+    taken k h = rw (z, ← h) (somewhere xs i found.0 found.1 found.2)
+
+    pub first-out : i ≡ 0 → at 1 ∷ at 2 ∷ at 3 ∷ f ∷ [] ≡ without w xs
+    first-out h = (moved xs f long).0 ∙ taken 0 h
+
+    pub second-out : i ≡ 1 → at 0 ∷ at 2 ∷ at 3 ∷ f ∷ [] ≡ without w xs
+    second-out h = (moved xs f long).1 ∙ taken 1 h
+
+    pub third-out : i ≡ 2 → at 0 ∷ at 1 ∷ at 3 ∷ f ∷ [] ≡ without w xs
+    third-out h = (moved xs f long).2 ∙ taken 2 h
+
+    pub fourth-out : i ≢ 0 → i ≢ 1 → i ≢ 2 → at 0 ∷ at 1 ∷ at 2 ∷ f ∷ [] ≡ without w xs
+    fourth-out m n o = (moved xs f long).3 ∙ taken 3 (omega (arith, found.0, long))

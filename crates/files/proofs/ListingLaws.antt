@@ -62,15 +62,28 @@ module _ (place : ℕ → Place) (g : ℕ) where
       }
 
   module _ {out : List ℕ} {p left : ℕ} (l : Listing place g out p left) where
+    -- a process that is not listed yet has a number
+    pub listing-more : p ≤ processes → left ≢ 0 → p < processes
+    unfolding members
+    listing-more low more =
+        whether p processes
+        (λ e. absurd (omega (arith, ap (passed place g) e, l.count, more)))
+        (λ ne. omega (arith, low))
+
+    -- and there is room for its line
+    pub listing-room : 1 ≤ p → p ≤ processes → left ≢ 0 → length out + length (decimal p) + 1 ≤ longest_listing
+    listing-room some low more =
+        let h : p < processes = listing-more low more in
+        let line : length (decimal p) + 1 + bytes_below p ≡ bytes_below (p + 1) =
+        rw (length-append (decimal p) (10 ∷ [])) at (length-line p some h) in
+        omega (arith, l.short, line, bytes-to-all (p + 1) (omega arith) (omega arith))
+
     module _ (some : 1 ≤ p) (h : p < processes) where
       left_over : processes - p ≡ suc (processes - (p + 1))
       left_over = omega arith
 
       line : length (decimal p) + 1 + bytes_below p ≡ bytes_below (p + 1)
       line = rw (length-append (decimal p) (10 ∷ [])) at (length-line p some h)
-
-      pub listing-room : length out + length (decimal p) + 1 ≤ longest_listing
-      listing-room = omega (arith, l.short, line, bytes-to-all (p + 1) (omega arith) (omega arith))
 
       pub listing-line : {b : Bool} → b ≡ stands_in (place p) g → b ≡ true → left ≢ 0 → {new : List ℕ} {n : ℕ}
           → new ≡ out ++ ended (decimal p) → n ≡ left - 1 → Listing place g new (p + 1) n

@@ -2,7 +2,7 @@
 use Prim.Native.Nat.{ℕ, zero, suc, ◌+◌, ◌-◌, ◌*◌, ◌≤◌, ◌<◌}
 use native.Mathlib.Omega.{arith}
 use mathlib.Core.Bool.{Bool, true, false}
-use mathlib.Core.List.{List, ◌++◌, append-nil}
+use mathlib.Core.List.{List, [], ◌∷◌, ◌++◌, append_assoc, append-nil}
 use mathlib.Core.Logic.{◌≢◌}
 use mathlib.Core.Path.{◌≡◌, refl, ap, sym, ◌∙◌}
 use lib.ListN.{length, length-append}
@@ -11,8 +11,8 @@ use borrow.Author.Tests.{eq-eqb, ne_eqb, eqb-true}
 use Rattle.model.specs.Sizes.{groups, deepest, longest_membership}
 use Rattle.model.specs.Tree.{Tree, lives}
 use Rattle.model.specs.Zombies.{there, path_parents, path_depths, last_group}
-use Rattle.model.specs.Text.{bytes, decimal}
-use Rattle.model.specs.Files.{path, deleted_mark}
+use Rattle.model.specs.Text.{bytes, newline, decimal}
+use Rattle.model.specs.Files.{path, deleted_mark, membership_line}
 use Rattle.model.specs.WellFormed.{Sound}
 use Rattle.model.proofs.FunctionLaws.{split, whether, clash}
 use Rattle.model.proofs.LengthLaws.{path-root, path-up, length-path}
@@ -70,12 +70,13 @@ module _ {xs out : List ℕ} {g deep : ℕ} (h : HasPath xs g deep out) (nz : g 
   pub length-next : length (path (path_parents (view xs)) (deep - 1) p) + suc (length (decimal g)) ≡ length (path (path_parents (view xs)) deep g)
   length-next = rw (← path-next, length-append)
 
-  pub path-above : HasPath xs p (deep - 1) out
-  path-above =
+  -- in `out`, or in a line with no more before it than "/" and the number
+  pub path-above : (w : List ℕ) → length w ≤ length out + suc (length (decimal g)) → HasPath xs p (deep - 1) w
+  path-above w few =
       record {
         group = record { kept = h.group.kept; there = rw e ((sound h.group).above g h.group.there nz) };
         level = omega (arith, below, h.level);
-        room = omega (arith, length-next, h.room);
+        room = omega (arith, length-next, h.room, few);
       }
 
 -- ---- the path that a membership line shows of a group other than the root
@@ -111,11 +112,29 @@ module _ {xs : List ℕ} {g deep : ℕ} (k : ThereAt xs g) (nz : g ≢ 0) (d : d
   pub place-room : (out : List ℕ) → length out + length (place_path (view xs) g) ≤ longest_membership → HasPath xs g deep out
   place-room out r = record { group = k; level = omega arith; room = omega (arith, ap length place-path, r) }
 
+-- ---- its mark
+
+pub mark-live : (t : Tree) (g : ℕ) → lives t g ≡ true → [] ≡ deleted_mark t g
+mark-live t g l = rw l
+
+pub mark-removed : (t : Tree) (g : ℕ) → lives t g ≡ false → bytes " (deleted)" ≡ deleted_mark t g
+mark-removed t g n = rw n
+
 pub length-mark : (t : Tree) (g : ℕ) → length (deleted_mark t g) ≤ longest_mark
-length-mark t g = split (lives t g) (λ l. rw l (omega arith)) (λ n. rw n (omega arith))
+length-mark t g =
+    split (lives t g)
+    (λ l. omega (arith, ap length (mark-live t g l)))
+    (λ n. omega (arith, ap length (mark-removed t g n)))
 
 -- ---- the membership line of a live process or a zombie
 
-module _ {xs out : List ℕ} {p : ℕ} (h : HasLine xs p out) where
+module _ {xs : List ℕ} {p : ℕ} (h : HasLine xs p) where
   pub last-at : (g : ℕ) → g ≡ last_group (view xs) p → ThereAt xs g
   last-at g e = record { kept = h.kept; there = rw e (last-there (view xs) h.kept.formed p h.taken) }
+
+pub membership-text : (xs : List ℕ) (p g : ℕ) → g ≡ last_group (view xs) p
+    → bytes "0::" ++ (place_path (view xs) g ++ (deleted_mark (view xs) g ++ (newline ∷ []))) ≡ membership_line (view xs) p
+unfolding membership_line
+membership-text xs p g e =
+    rw e
+    (ap (λ (w : List ℕ). bytes "0::" ++ w) (sym (append_assoc (place_path (view xs) (last_group (view xs) p)) (deleted_mark (view xs) (last_group (view xs) p)) (newline ∷ []))))

@@ -96,8 +96,8 @@ module _ {xs : List ℕ} {g : ℕ} (k : KeptAt xs g) where
       ∙ one_line (Maximum r (map_limit (to_figure r) (((view xs).group g).core.limit r)))
 
 -- the text of a settings file has room
-pub setting-room : {xs out text : List ℕ} {g n : ℕ} {s y : Setting} → Ready xs g (Value s) out n → s ≡ y
+pub setting-room : {xs out text : List ℕ} {g n : ℕ} {s y : Setting} → Ready xs g (Value s) n → out ≡ [] → s ≡ y
     → text ≡ file_contents xs g (Value y) → length out + length text ≤ n
-setting-room {n = n} {y = y} r e t =
+setting-room {n = n} {y = y} r z e t =
     let room : longest (Value y) ≤ n = rw e at r.room in
-    omega (arith, length-setting r.group y, ap length t, ap length r.empty, room)
+    omega (arith, length-setting r.group y, ap length t, ap length z, room)

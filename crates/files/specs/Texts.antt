@@ -1,5 +1,5 @@
 -- What the writers of a text's parts ask and write: document 01, "What a reader sees". Assumes nothing.
-use Rattle.std.specs.Prelude.{ℕ, ◌+◌, ◌*◌, ◌≤◌, true, List, [], ◌∷◌, ◌++◌, ◌≡◌, eqb, length, Result}
+use Rattle.std.specs.Prelude.{ℕ, ◌+◌, ◌*◌, ◌≤◌, true, List, ◌∷◌, ◌++◌, ◌≡◌, eqb, length, Result}
 use Rattle.model.specs.Functions.{pick}
 use Rattle.model.specs.Sizes.{deepest, longest_listing, longest_membership, most_devices, longest_shown}
 use Rattle.model.specs.Tree.{Tree}
@@ -45,10 +45,9 @@ longest (Value (Max r)) = longest_other
 unfoldable pub file_contents : List ℕ → ℕ → File → List ℕ
 file_contents xs g file = contents (facts_of (view xs)) g file
 
--- a live group, and an empty text of n bytes with room for the file's
-pub record Ready (xs : List ℕ) (g : ℕ) (file : File) (out : List ℕ) (n : ℕ) : Type 0 where
+-- a live group, and n bytes with room for the file's text
+pub record Ready (xs : List ℕ) (g : ℕ) (file : File) (n : ℕ) : Type 0 where
   pub group : KeptAt xs g
-  pub empty : out ≡ []
   pub room : longest file ≤ n
 
 -- the text of a file delivered
@@ -66,11 +65,10 @@ pub record HasPath (xs : List ℕ) (g deep : ℕ) (out : List ℕ) : Type 0 wher
   pub level : path_depths (view xs) g ≤ deep
   pub room : length out + length (path (path_parents (view xs)) deep g) ≤ longest_membership
 
--- a live process or a zombie, and a membership line that is empty yet
-pub record HasLine (xs : List ℕ) (p : ℕ) (out : List ℕ) : Type 0 where
+-- a live process or a zombie
+pub record HasLine (xs : List ℕ) (p : ℕ) : Type 0 where
   pub kept : Kept xs
   pub taken : process_taken (view xs) p ≡ true
-  pub empty : out ≡ []
 
 -- the path as a membership line shows it
 abbrev pub place_path : Tree → ℕ → List ℕ

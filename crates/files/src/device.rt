@@ -4,13 +4,14 @@ ghost use Rattle.model.specs.Text.{space};
 ghost use Rattle.model.specs.DeviceLines.{device_text, pair_text};
 ghost use Rattle.model.specs.declared.File.{File};
 ghost use Rattle.model.specs.declared.Setting.{Setting};
+ghost use Rattle.devices.specs.LimitWords.{limit_in};
 ghost use Rattle.files.specs.Texts.{limits_text, slot_text, file_contents, Ready};
 
 use devices::limit::limit_in;
 use devices::slot::Slot;
 use lines::amount::{major_of, minor_of};
 use lines::name::Named;
-use model::{GroupId, Key, Limit};
+use model::{GroupId, Key};
 use text::write::Text;
 use tree::device::slots;
 use tree::layout::Tree;
@@ -25,15 +26,15 @@ fn put_device<const N: usize>(major: u64, minor: u64, out: &mut Text<N>)
     out.push_number(minor);
 }
 
-// A key after a space, and its limit.
-fn put_pair<const N: usize>(key: Key, limit: Limit, out: &mut Text<N>)
-    requires { length out.old + length (pair_text key limit) + 1 ≤ N }
-    ensures { out.new ≡ out.old ++ (space ∷ pair_text key limit) }
+// A key after a space, and the limit that its word says.
+fn put_pair<const N: usize>(key: Key, word: u64, out: &mut Text<N>)
+    requires { length out.old + length (pair_text key (limit_in word)) + 1 ≤ N }
+    ensures { out.new ≡ out.old ++ (space ∷ pair_text key (limit_in word)) }
 {
     out.push(b' ');
     out.push_bytes(key.name());
     out.push(b'=');
-    out.push_limit(limit);
+    out.push_limit(limit_in(word));
 }
 
 // The limits of all four keys.
@@ -41,10 +42,10 @@ fn put_limits<const N: usize>(x: Slot, out: &mut Text<N>)
     requires { length out.old + length (limits_text x) ≤ N }
     ensures { out.new ≡ out.old ++ limits_text x }
 {
-    put_pair(Key::Rbps, limit_in(x.limits.rbps), out);
-    put_pair(Key::Wbps, limit_in(x.limits.wbps), out);
-    put_pair(Key::Riops, limit_in(x.limits.riops), out);
-    put_pair(Key::Wiops, limit_in(x.limits.wiops), out);
+    put_pair(Key::Rbps, x.limits.rbps, out);
+    put_pair(Key::Wbps, x.limits.wbps, out);
+    put_pair(Key::Riops, x.limits.riops, out);
+    put_pair(Key::Wiops, x.limits.wiops, out);
 }
 
 // The line of a slot in use.
@@ -61,9 +62,10 @@ fn put_slot<const N: usize>(x: Slot, out: &mut Text<N>)
 
 // The whole text of io.max. The slots in use are the first.
 pub fn put_devices<const N: usize>(t: &Tree, g: GroupId, out: &mut Text<N>)
-    requires { Ready t.now g.0 (File.Value Setting.IoMax) out.old N }
+    requires { Ready t.now g.0 (File.Value Setting.IoMax) N }
     ensures { out.new ≡ file_contents t.now g.0 (File.Value Setting.IoMax) }
 {
+    out.clear();
     let s = slots(t, g);
     for x in s {
         if x.device == 0 {

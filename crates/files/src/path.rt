@@ -79,12 +79,12 @@ fn put_mark(t: &Tree, g: GroupId, out: &mut Line)
 }
 
 // The membership line of a live process or a zombie.
-#[tactic(auto, unfolding(model::specs::Files::membership_line))]
 pub fn put_membership(t: &Tree, p: ProcessId, out: &mut Line)
-    requires { HasLine t.now p.0 out.old }
+    requires { HasLine t.now p.0 }
     ensures { out.new ≡ membership_line (view t.now) p.0 }
 {
     let group = last_group(t, p);
+    out.clear();
     out.push_bytes(b"0::");
     put_place(t, group, out);
     put_mark(t, group, out);

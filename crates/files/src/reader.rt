@@ -49,13 +49,13 @@ fn is_present(t: &Tree, g: GroupId, file: File) -> bool
 // The text of a file.
 #[tactic(auto, unfolding(crate::specs::Texts::file_contents, model::specs::Files::contents, model::specs::Files::names_of))]
 fn put_file<const N: usize>(t: &Tree, g: GroupId, file: File, out: &mut Text<N>)
-    requires { Ready t.now g.0 file out.old N }
+    requires { Ready t.now g.0 file N }
     ensures { out.new ≡ file_contents t.now g.0 file }
 {
     match file {
         File::Procs => put_procs(t, g, out),
-        File::Controllers => put_names(PerController::from_fn(|c| is_available(t, c, g)), out),
-        File::SubtreeControl => put_names(PerController::from_fn(|c| has(t, g, c)), out),
+        File::Controllers => put_names(&PerController::from_fn(|c| is_available(t, c, g)), out),
+        File::SubtreeControl => put_names(&PerController::from_fn(|c| has(t, g, c)), out),
         File::Events => put_events(t, g, out),
         File::Current(r) => put_current(t, g, r, out),
         File::Value(s) => put_setting(t, g, s, out),

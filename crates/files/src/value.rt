@@ -20,9 +20,10 @@ use tree::sum::Counter;
 // Whether a live process is inside the group.
 #[tactic(auto, unfolding(crate::specs::Texts::file_contents, model::specs::Files::contents))]
 pub fn put_events<const N: usize>(t: &Tree, g: GroupId, out: &mut Text<N>)
-    requires { Ready t.now g.0 File.Events out.old N }
+    requires { Ready t.now g.0 File.Events N }
     ensures { out.new ≡ file_contents t.now g.0 File.Events }
 {
+    out.clear();
     if count(t, g, Counter::Of(Resource::Processes)) == 0 {
         out.push_bytes(b"populated 0\n");
     } else {
@@ -33,9 +34,10 @@ pub fn put_events<const N: usize>(t: &Tree, g: GroupId, out: &mut Text<N>)
 // What stands inside the group.
 #[tactic(auto, unfolding(crate::specs::Texts::file_contents, model::specs::Files::contents))]
 pub fn put_current<const N: usize>(t: &Tree, g: GroupId, r: Resource, out: &mut Text<N>)
-    requires { Ready t.now g.0 (File.Current r) out.old N }
+    requires { Ready t.now g.0 (File.Current r) N }
     ensures { out.new ≡ file_contents t.now g.0 (File.Current r) }
 {
+    out.clear();
     put_line(to_figure(r, count(t, g, Counter::Of(r))), out);
 }
 
@@ -62,9 +64,10 @@ fn put_limit_line<const N: usize>(limit: Limit, out: &mut Text<N>)
 // The whole text of a settings file.
 #[tactic(auto, unfolding(crate::specs::Texts::file_contents, model::specs::Files::contents, model::specs::Settings::shown, model::specs::Settings::value_text, model::specs::Text::joined))]
 pub fn put_setting<const N: usize>(t: &Tree, g: GroupId, s: Setting, out: &mut Text<N>)
-    requires { Ready t.now g.0 (File.Value s) out.old N }
+    requires { Ready t.now g.0 (File.Value s) N }
     ensures { out.new ≡ file_contents t.now g.0 (File.Value s) }
 {
+    out.clear();
     match s {
         Setting::CpuWeight => put_line(weight(t, g), out),
         Setting::CpuMax => put_bandwidth(quota(t, g), period(t, g), out),

@@ -10,7 +10,7 @@ use borrow.Author.Tests.{eq-eqb, ne_eqb, eqb-true, eqb-false}
 use Rattle.model.specs.Text.{body, leading_word}
 use Rattle.model.specs.Control.{bad_rest, has_bad_word, first_bad_word}
 use Rattle.lines.specs.Control.{BadSpan}
-use Rattle.std.specs.declared.ops.Range.{Range}
+use Rattle.text.specs.declared.line.Span.{Span}
 
 same_test : (a b c d : ℕ) → (c ≡ d → a ≡ b) → (a ≡ b → c ≡ d) → eqb a b ≡ eqb c d
 same_test a b c d f g = go (eqb c d) refl
@@ -19,7 +19,7 @@ same_test a b c d f g = go (eqb c d) refl
     go true e = eq-eqb a b (f (eqb-true c d e))
     go false e = ne_eqb a b (λ h. eqb-false c d e (g h))
 
-module _ (line text : List ℕ) (e : text ≡ body line) (p : Range ℕ) (s : BadSpan text p) where
+module _ (line text : List ℕ) (e : text ≡ body line) (p : Span) (s : BadSpan text p) where
   left : length (body line) ≡ p.start + length (bad_rest line)
   unfolding bad_rest
   left = (rw e at s).left

@@ -1,43 +1,40 @@
 -- Laws of control lines: what the words that are left ask, and the first bad word. Assumes nothing.
 use Prim.Native.Nat.{ℕ, ◌+◌, ◌-◌, ◌≤◌}
-use mathlib.Core.Bool.{Bool, true, false, not}
+use mathlib.Core.Bool.{Bool, true, false}
 use mathlib.Core.List.{List, [], ◌∷◌, ◌++◌}
 use mathlib.Core.Path.{◌≡◌, refl, ap, sym, ◌∙◌}
 use native.Mathlib.Omega.{arith}
 use lib.ListN.{length, length-append}
-use lib.Dec.{eqb}
-use lib.Pointwise.{pointwise}
 use borrow.Author.Tests.{eq-eqb}
 use Rattle.model.specs.Text.{same_bytes, leading_word, starts}
 use Rattle.model.specs.Names.{controller_name}
-use Rattle.model.specs.Control.{Ask, enable, disable, is_control_word, asked_by, or_before, asked_from, first_bad}
+use Rattle.model.specs.Control.{Ask, keep, enable, disable, at_controller, is_control_word, asked_by, or_before, asked_from, first_bad}
 use Rattle.model.specs.declared.Controller.{Controller}
+use Rattle.model.specs.declared.Controller.TheVariants.{Cpu, Io, Memory, Pids}
+use Rattle.model.specs.declared.PerController.{PerController}
+use Rattle.lines.specs.declared.control.Wish.{Wish}
+use Rattle.lines.specs.declared.control.Wish.TheVariants.{Keep}
 use Rattle.text.specs.Line.{FirstWord}
-use Rattle.text.proofs.SameLaws.{same-pointwise}
-use Rattle.lines.specs.Control.{BadSpan}
+use Rattle.lines.specs.Control.{ask_of, BadSpan}
 
 -- ---- one word, by its sign s and the name after it, where n is the controller's
 
-is-not : (b : Bool) (t : Bool) → t ≡ not b → b ≡ not t
-is-not true t e = rw e refl
-is-not false t e = rw e refl
-
 module _ (c : Controller) (word : List ℕ) (s : ℕ) (name n : List ℕ) (w : word ≡ s ∷ name) (is : n ≡ controller_name c) (a : Ask) where
-  names : (t : Bool) → t ≡ not (pointwise eqb name n) → same_bytes name (controller_name c) ≡ not t
-  names t e = same-pointwise name (controller_name c) ∙ ap (pointwise eqb name) (sym is) ∙ is-not _ t e
+  names : (t : Bool) → t ≡ same_bytes name n → same_bytes name (controller_name c) ≡ t
+  names t e = ap (same_bytes name) (sym is) ∙ sym e
 
-  pub asked-other : true ≡ not (pointwise eqb name n) → a ≡ or_before a (asked_by c word)
+  pub asked-other : false ≡ same_bytes name n → a ≡ or_before a (asked_by c word)
   unfolding asked_by
-  asked-other e = rw (w, names true e) refl
+  asked-other e = rw (w, names false e) refl
 
-  module _ (e : false ≡ not (pointwise eqb name n)) where
+  module _ (e : true ≡ same_bytes name n) where
     pub asked-plus : s ≡ 43 → enable ≡ or_before a (asked_by c word)
     unfolding asked_by
-    asked-plus p = rw (w, names false e, eq-eqb s 43 p) refl
+    asked-plus p = rw (w, names true e, eq-eqb s 43 p) refl
 
     pub asked-minus : s ≡ 45 → disable ≡ or_before a (asked_by c word)
     unfolding asked_by
-    asked-minus p = rw (w, names false e, p) refl
+    asked-minus p = rw (w, names true e, p) refl
 
 -- ---- the words ws that are left, after which a is asked, where all the words ask r
 
@@ -50,6 +47,28 @@ module _ (a r : Ask) (c : Controller) (ws : List (List ℕ)) (inv : asked_from a
       → asked_from b c vs ≡ r
   unfolding asked_from
   asked-more b w vs e f = rw f (rw e at inv)
+
+-- ---- each controller's wish, before all words and after one more
+
+none-is-kept : (w : Wish) → w ≡ Keep → ask_of w ≡ keep
+none-is-kept w e = ap ask_of e
+
+pub none-asked : (v : PerController Wish) → v.cpu ≡ Keep → v.io ≡ Keep → v.memory ≡ Keep → v.pids ≡ Keep
+    → (c : Controller) → ask_of (at_controller v c) ≡ keep
+none-asked v e f g h Cpu = none-is-kept _ e
+none-asked v e f g h Io = none-is-kept _ f
+none-asked v e f g h Memory = none-is-kept _ g
+none-asked v e f g h Pids = none-is-kept _ h
+
+module _ (v u : PerController Wish) (w : List ℕ) where
+  abbrev After : Controller → Type 0
+  After c = ask_of (at_controller u c) ≡ or_before (ask_of (at_controller v c)) (asked_by c w)
+
+  pub each-asked : After Cpu → After Io → After Memory → After Pids → (c : Controller) → After c
+  each-asked e f g h Cpu = e
+  each-asked e f g h Io = f
+  each-asked e f g h Memory = g
+  each-asked e f g h Pids = h
 
 -- ---- the first bad word, where w is the first word of what is left, and r what follows it
 

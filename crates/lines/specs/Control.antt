@@ -1,7 +1,7 @@
 -- What the readers of control lines answer: the asks of a line, and where its first bad word is. Assumes nothing.
 use Rattle.std.specs.Prelude.{ℕ, ◌+◌, ◌≤◌, List, ◌≡◌, length, take, drop}
 use Rattle.std.specs.Borrow.{Bor}
-use Rattle.std.specs.declared.ops.Range.{Range}
+use Rattle.text.specs.declared.line.Span.{Span}
 use Rattle.model.specs.Text.{leading_word, starts}
 use Rattle.model.specs.Control.{Ask, keep, enable, disable, asked, first_bad, Part}
 use Rattle.model.specs.declared.Controller.TheVariants.{Cpu, Io, Memory, Pids}
@@ -22,7 +22,7 @@ pub record AsksOf (line : List ℕ) (r : PerController Wish) : Type 0 where
   pub pids : ask_of r.pids ≡ asked line Pids
 
 -- p is the word that the text from its first bad word on begins with; the empty part at the end where there is none
-pub record BadSpan (text : List ℕ) (p : Range ℕ) : Type 0 where
+pub record BadSpan (text : List ℕ) (p : Span) : Type 0 where
   pub order : p.start ≤ p.end
   pub bound : p.end ≤ length text
   pub left : length text ≡ p.start + length (first_bad (starts text))

@@ -7,8 +7,7 @@ ghost use Rattle.lines.specs.Control.{ask_of, AsksOf, BadSpan, IsPart};
 
 use super::name::{Named, controller_named};
 use model::{Controller, PerController};
-use std::ops::Range;
-use text::line::{Words, cut_word, text_of};
+use text::line::{Span, Words, cut_word, is_same, text_of};
 
 // What is asked of a controller: nothing, that it is in the set, that it is not.
 #[derive(Clone, Copy, PartialEq, Eq)]
@@ -37,7 +36,7 @@ fn wished(word: &[u8], controller: Controller, earlier: Wish) -> Wish
     let Some((sign, name)) = word.split_first() else {
         return earlier;
     };
-    if name != controller.name() {
+    if !is_same(name, controller.name()) {
         return earlier;
     }
     match sign {
@@ -47,38 +46,38 @@ fn wished(word: &[u8], controller: Controller, earlier: Wish) -> Wish
     }
 }
 
-// What the words of a text ask of a controller: the last word on it counts.
-fn wish_of(text: &[u8], controller: Controller) -> Wish
-    ensures { ask_of result ≡ asked_from keep controller (words text.now) }
-{
-    let mut wish = Wish::Keep;
-    for word in (Words { text }) {
-        wish = wished(word, controller, wish);
-    }
-    wish
-}
-
-// What a control line asks of each controller.
+// What a control line asks of each controller: the last word on it counts.
 pub fn asks(line: &[u8]) -> PerController<Wish>
     ensures { AsksOf line.now result }
 {
     let text = text_of(line);
-    PerController::from_fn(|c| wish_of(text, c))
+    let mut wishes = PerController::from_fn(|_| Wish::Keep);
+    for word in (Words { text }) {
+        let earlier = wishes;
+        wishes = PerController::from_fn(|c| wished(word, c, earlier.get(c)));
+    }
+    wishes
 }
 
 // Where the first bad word of a text is, or the empty part at its end.
-pub fn bad_span(text: &[u8]) -> Range<usize>
+pub fn bad_span(text: &[u8]) -> Span
     ensures { BadSpan text.now result }
 {
     let mut left = text;
     while let Some((word, rest)) = cut_word(left) {
         if !is_control_word(word) {
             let end = text.len() - rest.len();
-            return end - word.len()..end;
+            return Span {
+                start: end - word.len(),
+                end,
+            };
         }
         left = rest;
     }
-    text.len()..text.len()
+    Span {
+        start: text.len(),
+        end: text.len(),
+    }
 }
 
 // Whether a control line has a bad word.
@@ -94,5 +93,5 @@ pub fn first_bad_word(line: &[u8]) -> &[u8]
     ensures { IsPart result line.entry (first_bad_word line.now) }
 {
     let bad = bad_span(text_of(line));
-    &line[bad]
+    &line[bad.start..bad.end]
 }

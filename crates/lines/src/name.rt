@@ -4,6 +4,7 @@ ghost use Rattle.model.specs.Names.{controller_name, controller_named, setting_n
 ghost use Rattle.model.specs.DeviceLines.{key_name, key_named};
 
 use model::{CONTROLLERS, Controller, File, Key, Resource, Setting};
+use text::line::is_same;
 
 // What has a name of its own.
 pub trait Named: Copy {
@@ -74,7 +75,7 @@ fn first_named<T: Named>(name: &[u8], all: &[T]) -> Option<T>
     ensures { result ≡ named T.name name.now all.now }
 {
     for &one in all {
-        if name == one.name() {
+        if is_same(name, one.name()) {
             return Some(one);
         }
     }
@@ -95,26 +96,33 @@ pub fn key_named(word: &[u8]) -> Option<Key>
     first_named(word, &[Key::Rbps, Key::Wbps, Key::Riops, Key::Wiops])
 }
 
-// Which file a name names: a setting's, one of a group's own, or one of a controller's.
+// The files: the settings, then a group's own, then the controllers'.
+pub const FILES: usize = 11;
+
+const SETTINGS: usize = 5;
+
+const ALL_FILES: [File; FILES] = [
+    File::Value(Setting::CpuWeight),
+    File::Value(Setting::CpuMax),
+    File::Value(Setting::Max(Resource::Pages)),
+    File::Value(Setting::Max(Resource::Processes)),
+    File::Value(Setting::IoMax),
+    File::Procs,
+    File::Controllers,
+    File::SubtreeControl,
+    File::Events,
+    File::Current(Resource::Pages),
+    File::Current(Resource::Processes),
+];
+
+// Which file a name names: a setting's, one of a group's own, or one of a controller's. In two parts, since LLVM unrolls no longer list.
 pub fn file_named(file: &[u8]) -> Option<File>
     ensures { result ≡ file_named file.now }
 {
-    first_named(
-        file,
-        &[
-            File::Value(Setting::CpuWeight),
-            File::Value(Setting::CpuMax),
-            File::Value(Setting::Max(Resource::Pages)),
-            File::Value(Setting::Max(Resource::Processes)),
-            File::Value(Setting::IoMax),
-            File::Procs,
-            File::Controllers,
-            File::SubtreeControl,
-            File::Events,
-            File::Current(Resource::Pages),
-            File::Current(Resource::Processes),
-        ],
-    )
+    if let Some(setting) = first_named(file, &ALL_FILES[..SETTINGS]) {
+        return Some(setting);
+    }
+    first_named(file, &ALL_FILES[SETTINGS..])
 }
 
 // Which setting a file name names.

@@ -3,7 +3,7 @@ use Rattle.std.specs.Prelude.{Option, Some, None, Result, Ok, Err, [], ◌∷◌
 use Rattle.std.proofs.lemmas.Bool.Decides.{nat_tests}
 use Prim.Native.Nat.{ℕ, ◌^◌, ◌≤◌, ◌<◌}
 use native.Mathlib.Omega.{arith}
-use mathlib.Core.Bool.{true, false}
+use mathlib.Core.Bool.{Bool, true, false}
 use mathlib.Core.List.{List, ◌++◌}
 use mathlib.Core.Logic.{◌≢◌}
 use mathlib.Core.Path.{◌≡◌, refl, ap, sym, ◌∙◌, subst}
@@ -15,7 +15,7 @@ use Rattle.model.specs.Checks.{need, first, Pass, Answer}
 use Rattle.model.specs.Tree.{Tree, is_live, places}
 use Rattle.model.specs.CommonAncestor.{meeting}
 use Rattle.model.specs.Text.{too_long}
-use Rattle.model.specs.Rules.{process_group, number_line, line_process}
+use Rattle.model.specs.Rules.{may_move_below, may_move, process_group, number_line, line_process}
 use Rattle.model.specs.Calls.{write_procs, checks, verdict}
 use Rattle.model.specs.Effects.{effect}
 use Rattle.model.specs.declared.ProcessId.{ProcessId}
@@ -82,6 +82,10 @@ module _ (t : Tree) where
   line-number line m short h = line_as line (number_line line) m short refl h
 
 module _ {xs : List ℕ} {p g m : ℕ} (h : Moving xs p g m) where
+  -- the second permission, asked of the group that the search found, is the rule's
+  pub may-moved : (user : ℕ) (b : Bool) → b ≡ may_move_below (view xs) user p m → b ≡ may_move (view xs) user p g
+  may-moved user b e = e ∙ rw h.meets refl
+
   -- the lowest group on both chains has a row
   pub meeting-low : m < groups
   meeting-low =

@@ -41,5 +41,5 @@ pub fn ss_first_bad_word(line: &[u8], told: &mut [u64; 2])
     ensures { told.new ≡ part_words (first_bad_word line.now) }
 {
     let bad = bad_span(text_of(line));
-    *told = [bad.start as u64, bad.len() as u64];
+    *told = [bad.start as u64, (bad.end - bad.start) as u64];
 }

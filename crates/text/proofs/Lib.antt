@@ -5,3 +5,4 @@ pub mod LimitLaws
 pub mod CutLaws
 pub mod DecimalLaws
 pub mod SameLaws
+pub mod WriteLaws

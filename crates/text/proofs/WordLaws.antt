@@ -1,7 +1,7 @@
 -- Laws of words: where the first word of a text begins and ends, the words of a text by the first, and a line that has exactly one.
 -- Assumes nothing.
-use Rattle.std.proofs.Common.{ℕ, zero, suc, ◌≤◌, ◌<◌, ◌≡◌, ◌≢◌, Bool, true, false, eqb, List, [], ◌∷◌, ◌++◌, map, length, get_or, take, drop, Option, Some, None, refl, ap, sym, ◌∙◌, arith, length-drop, drop-cons}
-use Rattle.std.proofs.Math.Seq.{drop-length}
+use Rattle.std.proofs.Common.{ℕ, zero, suc, ◌+◌, ◌-◌, ◌≤◌, ◌<◌, ◌≡◌, ◌≢◌, Bool, true, false, eqb, List, [], ◌∷◌, ◌++◌, map, length, get_or, take, drop, Option, Some, None, refl, ap, sym, ◌∙◌, arith, add-one, length-drop, drop-cons}
+use Rattle.std.proofs.Math.Seq.{drop-length, drop-drop}
 use Rattle.std.proofs.lemmas.List.{take-append-drop}
 use Rattle.std.specs.Prelude.{MatchOption}
 use Rattle.std.specs.Borrow.{Bor}
@@ -19,6 +19,19 @@ leading-before : (l : List ℕ) → leading_word l ≡ before space l
 unfolding leading_word before
 leading-before [] = refl
 leading-before (b ∷ l) = rw (leading-before l)
+
+module _ (l : List ℕ) (i : ℕ) (h : i < length l) where
+  pub word_more : get_or l i 0 ≢ space → length (leading_word (drop i l)) ≡ suc (length (leading_word (drop (i + 1) l)))
+  unfolding leading_word
+  word_more n = rw (drop-cons l i 0 h, add-one, ne_eqb (get_or l i 0) space n)
+
+  pub word-stop : get_or l i 0 ≡ space → length (leading_word (drop i l)) ≡ 0
+  unfolding leading_word
+  word-stop q = rw (drop-cons l i 0 h, eq-eqb (get_or l i 0) space q)
+
+pub word_out : (l : List ℕ) (i : ℕ) → i ≡ length l → length (leading_word (drop i l)) ≡ 0
+unfolding leading_word
+word_out l i p = rw (p, drop-length)
 
 -- ---- starts
 
@@ -73,6 +86,14 @@ module _ (l : List ℕ) (i : ℕ) (h : i < length l) (here : HoldsAt (λ x. x �
         cut = sym e;
         long = omega (arith, ap length e, length-drop i l);
       }
+
+  -- the same by the place where the word ends
+  pub first-word-to : (e : ℕ) → e ≡ i + length (leading_word (drop i l)) → (w r : List ℕ) → w ≡ take (e - i) (drop i l) → r ≡ drop e l
+      → FirstWord l w r
+  first-word-to e q w r p d =
+      let z : i + (e - i) ≡ e = omega (arith, q) in
+      first-word (drop i l) (e - i) w r refl (omega (arith, q, ap length (leading-before (drop i l)))) p
+      (d ∙ sym (drop-drop (e - i) i l ∙ ap (λ k. drop k l) z))
 
 -- ---- the words of a text by the first
 

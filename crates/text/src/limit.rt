@@ -4,6 +4,7 @@ ghost use Rattle.model.specs.Functions.{mapped};
 ghost use Rattle.model.specs.Settings.{limit_word};
 ghost use Rattle.text.specs.Limit.{clipped_limit};
 
+use super::line::is_same;
 use super::number::parse_number;
 use model::Limit;
 
@@ -11,7 +12,7 @@ use model::Limit;
 pub fn parse_limit(word: &[u8]) -> Option<Limit>
     ensures { result ≡ mapped clipped_limit (limit_word word.now) }
 {
-    if word == b"max".as_slice() {
+    if is_same(word, b"max") {
         return Some(Limit::NoLimit);
     }
     let n = parse_number(word)?;

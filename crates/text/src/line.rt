@@ -1,16 +1,39 @@
 // Lines, their texts and their words. A line is any bytes; its text is the line without its final newline.
-ghost use Rattle.std.specs.Prelude.{◌≡◌, [], length, take, Some, None, MatchOption};
+ghost use Rattle.std.specs.Prelude.{◌≡◌, ◌+◌, ◌≤◌, [], length, take, drop, Some, None, MatchOption};
 ghost use Rattle.std.specs.Iterator.{YieldsFirstBy, item_count};
-ghost use Rattle.model.specs.Text.{body, too_long, starts, words, line_words};
+ghost use Rattle.model.specs.Text.{body, leading_word, same_bytes, too_long, starts, words, line_words};
 ghost use Rattle.text.specs.Line.{FirstWord, word_bytes, sole_word};
 
 const LONGEST_LINE: usize = 128;
+
+// A part of a text: from `start` up to `end`.
+#[derive(Clone, Copy)]
+pub struct Span {
+    pub start: usize,
+    pub end: usize,
+}
 
 // Whether a line is longer than a call may be given, its newline counted.
 pub fn is_too_long(line: &[u8]) -> bool
     ensures { result ≡ too_long line.now }
 {
     LONGEST_LINE < line.len()
+}
+
+// Whether two texts are the same bytes. Not `==`, whose function is never inlined: with a name that is written down, this one becomes
+// a few tests.
+pub fn is_same(a: &[u8], b: &[u8]) -> bool
+    ensures { result ≡ same_bytes a.now b.now }
+{
+    if a.len() != b.len() {
+        return false;
+    }
+    for i in 0..a.len() {
+        if a[i] != b[i] {
+            return false;
+        }
+    }
+    true
 }
 
 // One final newline is dropped.
@@ -21,14 +44,27 @@ pub fn text_of(line: &[u8]) -> &[u8]
     line.strip_suffix(b"\n").unwrap_or(line)
 }
 
+// Where the word that begins at a place ends: before a space, or with the text.
+fn word_end(text: &[u8], start: usize) -> usize
+    requires { start ≤ length text.now }
+    ensures end { result ≡ start + length (leading_word (drop start text.now)) }
+    ensures bound { (start ≤ result) × (result ≤ length text.now) }
+{
+    for i in start..text.len() {
+        if text[i] == b' ' {
+            return i;
+        }
+    }
+    text.len()
+}
+
 // The first word of a text, and what follows it.
 pub fn cut_word(text: &[u8]) -> Option<(&[u8], &[u8])>
     ensures { MatchOption result (starts text.now ≡ []) (λ p. FirstWord text.now p.0.now p.1.now) }
 {
     let start = text.iter().position(|&b| b != b' ')?;
-    let found = &text[start..];
-    let n = found.iter().position(|&b| b == b' ').unwrap_or(found.len());
-    Some(found.split_at(n))
+    let end = word_end(text, start);
+    Some((&text[start..end], &text[end..]))
 }
 
 // The words of a text that are left to be read, in their order.

@@ -1,6 +1,7 @@
 // A text that is being made, in an array of fixed size, and the delivery of a text into the caller's buffer.
 ghost use Rattle.std.specs.Prelude.{ℕ, ◌+◌, ◌≤◌, ◌<◌, List, [], ◌∷◌, ◌++◌, ◌≡◌, eqb, length, take};
 ghost use Rattle.model.specs.Text.{decimal};
+ghost use Rattle.model.specs.Files.{delivered};
 ghost use Rattle.model.specs.Settings.{limit_text};
 ghost use Rattle.text.specs.Write.{Delivers};
 
@@ -33,6 +34,13 @@ impl<const N: usize> Text<N> {
         }
     }
 
+    // No text stands there any more.
+    pub fn clear(&mut self)
+        ensures { self.new ≡ [] }
+    {
+        self.len = 0;
+    }
+
     // The text so far.
     pub fn as_slice(&self) -> &[u8]
         ensures { result.now ≡ self.now }
@@ -50,18 +58,19 @@ impl<const N: usize> Text<N> {
         requires { length self.old < N }
         ensures { self.new ≡ self.old ++ b ∷ [] }
     {
-        self.bytes[self.len] = b;
-        self.len += 1;
+        let at = self.len;
+        self.bytes[at] = b;
+        self.len = at + 1;
     }
 
     pub fn push_bytes(&mut self, text: &[u8])
         requires { length self.old + length text.now ≤ N }
         ensures { self.new ≡ self.old ++ text.now }
     {
+        let at = self.len;
         let room = &mut self.bytes[..];
-        let end = self.len + text.len();
-        room[self.len..end].copy_from_slice(text);
-        self.len = end;
+        copy(&mut room[at..], text);
+        self.len = at + text.len();
     }
 
     // The number in decimal, with no zero in front.
@@ -69,8 +78,9 @@ impl<const N: usize> Text<N> {
         requires { length self.old + length (decimal n) ≤ N }
         ensures { self.new ≡ self.old ++ decimal n }
     {
+        let at = self.len;
         let room = &mut self.bytes[..];
-        self.len += put_number(&mut room[self.len..], n);
+        self.len = at + put_number(&mut room[at..], n);
     }
 
     // "max", or the figure in decimal.
@@ -92,14 +102,23 @@ fn put_number(out: &mut [u8], n: u64) -> usize
     ensures end { result ≡ length (decimal n) }
     ensures text { take result out.new ≡ decimal n }
 {
-    let digit = b'0' + (n % 10) as u8;
     if n < 10 {
-        out[0] = digit;
+        out[0] = b'0' + n as u8;
         return 1;
     }
     let end = put_number(out, n / 10);
-    out[end] = digit;
+    out[end] = b'0' + (n % 10) as u8;
     end + 1
+}
+
+// The text goes to the front. A loop becomes a `memcpy` behind a test of the length, so that nothing is called for no byte.
+fn copy(out: &mut [u8], text: &[u8])
+    requires { length text.now ≤ length out.old }
+    ensures { out.new ≡ delivered text.now out.old }
+{
+    for (i, &b) in text.iter().enumerate() {
+        out[i] = b;
+    }
 }
 
 // The text goes to the front of the caller's buffer, and its length is told. Where it does not fit the answer is 28,
@@ -110,6 +129,6 @@ pub fn deliver(buf: &mut [u8], text: &[u8]) -> Result<usize, Errno>
     if buf.len() < text.len() {
         return Err(Errno::Enospc);
     }
-    buf[..text.len()].copy_from_slice(text);
+    copy(buf, text);
     Ok(text.len())
 }

@@ -6,7 +6,7 @@ use Rattle.files.proofs.DeviceTextLaws.{lines-none, lines-all, lines-end, lines-
 use Rattle.files.proofs.device.put_devices.Goals as goal
 
 pub loop-x-init : goal.loop-x-init
-loop-x-init g c = lines-none c.slots-s.ensures c.requires.empty
+loop-x-init g c = lines-none c.slots-s.ensures c.clear.ensures
 
 pub returns-then-x-eq0 : goal.returns-then-x-eq0
 returns-then-x-eq0 g c = lines-end c.loop-x.invariant (omega (arith, c.slots-s.type_inv)) _ c.if-x-eq0.true

@@ -6,7 +6,7 @@ use Rattle.files.proofs.list.put_names.Goals as goal
 use Rattle.files.proofs.list.put_names.Goals.{then-get, else-get}
 
 pub loop-c-init : goal.loop-c-init
-loop-c-init g c = names-none (at_controller c.args.set) c.requires.0
+loop-c-init g c = names-none (at_controller c.args.set.now) c.clear.ensures
 
 pub loop-c-preserved : goal.loop-c-preserved
 loop-c-preserved g c =

@@ -8,7 +8,7 @@ use Rattle.files.proofs.list.put_procs.Goals as goal
 use Rattle.files.proofs.list.put_procs.Goals.{then-stands_in, else-stands_in}
 
 pub loop-p-init : goal.loop-p-init
-loop-p-init g c = rw c.requires.empty (listing_start _ _ c.requires.group.kept.formed.placed.none _ c.count-left.ensures)
+loop-p-init g c = rw c.clear.ensures (listing_start _ _ c.requires.group.kept.formed.placed.none _ c.count-left.ensures)
 
 -- the last was listed
 pub returns-then-left-eq0 : goal.returns-then-left-eq0
@@ -16,7 +16,7 @@ unfolding file_contents contents
 returns-then-left-eq0 g c = listing-done _ _ c.loop-p.invariant c.if-left-eq0.true (omega arith)
 
 pub put_line-requires : goal.put_line-requires
-put_line-requires g c = (search rules, omega (arith, c.requires.room, listing-room _ _ c.loop-p.invariant (omega arith) (omega arith)))
+put_line-requires g c = (search rules, omega (arith, c.requires.room, listing-room _ _ c.loop-p.invariant (omega arith) (omega arith) c.if-left-eq0.false))
 
 pub loop-p-preserved : goal.loop-p-preserved
 loop-p-preserved g c =

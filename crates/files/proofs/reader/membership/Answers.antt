@@ -15,7 +15,7 @@ returns-then-process-ge-PROCESSES c =
 
 pub put_membership-requires : goal.put_membership-requires
 put_membership-requires c =
-    record { kept = c.requires; taken = sym c.is_taken.ensures ∙ c.if-not-is_taken.false; empty = c.new-line.ensures }
+    record { kept = c.requires; taken = sym c.is_taken.ensures ∙ c.if-not-is_taken.false }
 
 -- the text, or 28
 pub returns : goal.returns

@@ -8,4 +8,4 @@ to_figure-requires g c = figure-fits c.requires.group _ _ c.count.ensures
 
 pub put_line-requires : goal.put_line-requires
 put_line-requires g c =
-    (search rules, omega (arith, ap length c.requires.empty, c.requires.room, length-figure c.requires.group _ _ c.count.ensures _ c.to_figure.ensures))
+    (search rules, omega (arith, ap length c.clear.ensures, c.requires.room, length-figure c.requires.group _ _ c.count.ensures _ c.to_figure.ensures))

@@ -1,15 +1,14 @@
 -- `text::line::cut_word` meets its contract: the word begins at the first byte that is no space, and ends before the next space.
 -- Assumes nothing.
-use Rattle.std.proofs.Common.{ℕ, ◌<◌, ◌≡◌, ◌≢◌, List, length, sym, ◌∙◌, rules, tests}
+use Rattle.std.proofs.Common.{ℕ, ◌<◌, ◌≡◌, ◌≢◌, List, length, refl, rules, tests}
 use Rattle.std.specs.Prelude.{MatchOption}
 use Rattle.std.specs.List.{AllWithin, HoldsAt}
 use Rattle.std.proofs.option.Match.{if_some}
 use Rattle.std.proofs.lemmas.List.{take_rest}
 use Rattle.std.proofs.lemmas.Iterator.{IsFirst-from_position, YieldsList-from_slice}
 use Rattle.model.specs.Text.{space}
-use Rattle.text.proofs.CutLaws.{cut-place}
-use Rattle.text.proofs.WordLaws.{no-word, first-word}
-use Rattle.text.proofs.line.cut_word.Goals.{After-position, After-split_at}
+use Rattle.text.proofs.WordLaws.{no-word, first-word-to}
+use Rattle.text.proofs.line.cut_word.Goals.{After-position, After-word_end-end}
 use Rattle.text.proofs.line.cut_word.Goals as goal
 
 abbrev Start : List ℕ → ℕ → Type 0
@@ -27,8 +26,5 @@ returns-in_err-start c =
 pub returns : goal.returns
 returns c =
     let start = if_some _ _ _ c.in_ok-start.was (started (goal.at.returns c).After-position) in
-    let ended = IsFirst-from_position _ _ _ (λ x. x ≡ space) (λ x. x ≢ space) c.position-2.ensures.ran (YieldsList-from_slice _ c.iter-2.ensures.rest) (λ x q k. search (rules, tests)) (λ x q k. search (rules, tests)) in
-    first-word c.args.text.now c.in_ok-start.start start.0 start.1 start.2 _ _ _ _
-    (take_rest c.args.text.now c.in_ok-start.start)
-    (c.unwrap_or-n.ensures ∙ sym (cut-place space _ c.position-2.result ended))
-    c.split_at.ensures.front c.split_at.ensures.back
+    first-word-to c.args.text.now c.in_ok-start.start start.0 start.1 start.2 c.word_end-end.result c.word_end-end.ensures.end _ _ refl
+    (take_rest c.args.text.now c.word_end-end.result)

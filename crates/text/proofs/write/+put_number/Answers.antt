@@ -1,5 +1,5 @@
 -- `text::write::put_number` meets its contract: the digits before the last are the decimal text of a tenth. Assumes nothing.
-use Rattle.std.proofs.Common.{ℕ, ◌+◌, ◌%◌, ◌≡◌, List, [], ◌∷◌, ◌++◌, ap, sym, ◌∙◌, arith, add-one}
+use Rattle.std.proofs.Common.{ℕ, ◌+◌, ◌%◌, List, [], ◌∷◌, ◌++◌, ap, sym, ◌∙◌, arith, add-one}
 use Rattle.std.proofs.Math.Seq.{take-suc-set}
 use Rattle.text.proofs.DecimalLaws.{decimal_digit, decimal-more, length-decimal-digit, length-decimal-more}
 use Rattle.text.proofs.write.+put_number.Goals as goal
@@ -13,9 +13,8 @@ returns-then-n-lt10-clause-end t c = sym (length-decimal-digit c.args.n c.if-n-l
 
 pub returns-then-n-lt10-clause-text : goal.returns-then-n-lt10-clause-text
 returns-then-n-lt10-clause-text t c =
-    let e : c.args.n % 10 ≡ c.args.n = omega arith in
     take-suc-set c.args.out.now 0 _ (omega (arith, length-decimal-digit c.args.n c.if-n-lt10.true))
-    ∙ rw e (sym (decimal_digit c.args.n c.if-n-lt10.true))
+    ∙ sym (decimal_digit c.args.n c.if-n-lt10.true)
 
 -- the digits before the last, and the last
 pub put_number-end-requires : goal.put_number-end-requires
