@@ -59,12 +59,13 @@ impl Function {
     }
 }
 
-/// The functions of the interface in a crate, whose names begin with `ss_` after some text, each from its name on.
-fn functions(folder: &str, begins: &str) -> Vec<Function> {
+/// The functions of a crate that begin with some text, each from its name on. One whose name has
+/// another beginning than is asked for is not read, whatever its form.
+fn functions(folder: &str, begins: &str, name: &str) -> Vec<Function> {
     let mut all = Vec::new();
     for entry in fs::read_dir(in_repository(folder)).unwrap() {
         let text = fs::read_to_string(entry.unwrap().path()).unwrap();
-        for item in text.split(begins).filter(|item| item.starts_with("ss_")) {
+        for item in text.split(begins).skip(1).filter(|item| item.starts_with(name)) {
             let (head, rest) = item.split_once("\n{\n").expect(item);
             let (body, _) = rest.split_once("\n}\n").expect(item);
             all.push(Function::read(head, body));
@@ -75,12 +76,12 @@ fn functions(folder: &str, begins: &str) -> Vec<Function> {
 
 /// What stands in for an exported function in the library: the function of its name.
 fn library() -> Vec<Function> {
-    functions("crates/shootspiral/src", "pub fn ")
+    functions("crates/shootspiral/src", "pub fn ", "ss_")
 }
 
-/// What is exported, as it stands.
+/// What is exported, whatever its name, as it stands.
 fn exports() -> Vec<Function> {
-    functions("crates/shootspiral_c/src", "#[unsafe(no_mangle)]\npub extern \"C\" fn ")
+    functions("crates/shootspiral_c/src", "#[unsafe(no_mangle)]\npub extern \"C\" fn ", "")
 }
 
 /// All that is exported, each with the body of the library's function.
