@@ -29,6 +29,9 @@ pub record Listing (place : ℕ → Place) (g : ℕ) (out : List ℕ) (p left : 
   pub text : out ++ process_lines place g p (processes - p) ≡ process_lines place g 0 processes
   pub count : left + passed place g p ≡ members place g
 
+line : (p : ℕ) → 1 ≤ p → p < processes → length (decimal p) + 1 + bytes_below p ≡ bytes_below (p + 1)
+line p some h = rw (length-append (decimal p) (10 ∷ [])) at (length-line p some h)
+
 module _ (place : ℕ → Place) (g : ℕ) where
   passed-next : (p : ℕ) → passed place g (p + 1) ≡ weigh (stands_in (place p) g) 1 + passed place g p
   unfolding sum
@@ -74,16 +77,11 @@ module _ (place : ℕ → Place) (g : ℕ) where
     pub listing-room : 1 ≤ p → p ≤ processes → left ≢ 0 → length out + length (decimal p) + 1 ≤ longest_listing
     listing-room some low more =
         let h : p < processes = listing-more low more in
-        let line : length (decimal p) + 1 + bytes_below p ≡ bytes_below (p + 1) =
-        rw (length-append (decimal p) (10 ∷ [])) at (length-line p some h) in
-        omega (arith, l.short, line, bytes-to-all (p + 1) (omega arith) (omega arith))
+        omega (arith, l.short, line p some h, bytes-to-all (p + 1) (omega arith) (omega arith))
 
     module _ (some : 1 ≤ p) (h : p < processes) where
       left_over : processes - p ≡ suc (processes - (p + 1))
       left_over = omega arith
-
-      line : length (decimal p) + 1 + bytes_below p ≡ bytes_below (p + 1)
-      line = rw (length-append (decimal p) (10 ∷ [])) at (length-line p some h)
 
       pub listing-line : {b : Bool} → b ≡ stands_in (place p) g → b ≡ true → left ≢ 0 → {new : List ℕ} {n : ℕ}
           → new ≡ out ++ ended (decimal p) → n ≡ left - 1 → Listing place g new (p + 1) n
@@ -91,7 +89,7 @@ module _ (place : ℕ → Place) (g : ℕ) where
           let e : stands_in (place p) g ≡ true = sym s ∙ y in
           rw (a, m)
           record {
-            short = omega (arith, l.short, length-append out (ended (decimal p)), length-append (decimal p) (10 ∷ []), line);
+            short = omega (arith, l.short, length-append out (ended (decimal p)), length-append (decimal p) (10 ∷ []), line p some h);
             text =
                 rw append_assoc
                 (rw (left_over, lines-listed place g p (processes - (p + 1)) e, ← add-one p) at l.text);
@@ -103,7 +101,7 @@ module _ (place : ℕ → Place) (g : ℕ) where
           let e : stands_in (place p) g ≡ false = sym s ∙ y in
           rw (a, m)
           record {
-            short = omega (arith, l.short, line);
+            short = omega (arith, l.short, line p some h);
             text = rw (left_over, lines-skipped place g p (processes - (p + 1)) e, ← add-one p) at l.text;
             count = omega (arith, l.count, passed-next p, weigh-no (stands_in (place p) g) 1 e);
           }
