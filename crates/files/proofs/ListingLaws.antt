@@ -73,15 +73,13 @@ module _ (place : ℕ → Place) (g : ℕ) where
         (λ e. absurd (omega (arith, ap (passed place g) e, l.count, more)))
         (λ ne. omega (arith, low))
 
-    -- and there is room for its line
-    pub listing-room : 1 ≤ p → p ≤ processes → left ≢ 0 → length out + length (decimal p) + 1 ≤ longest_listing
-    listing-room some low more =
-        let h : p < processes = listing-more low more in
-        omega (arith, l.short, line p some h, bytes-to-all (p + 1) (omega arith) (omega arith))
-
     module _ (some : 1 ≤ p) (h : p < processes) where
       left_over : processes - p ≡ suc (processes - (p + 1))
       left_over = omega arith
+
+      -- a number has room for its line, whether it is to be listed or not
+      pub listing-room : length out + length (decimal p) + 1 ≤ longest_listing
+      listing-room = omega (arith, l.short, line p some h, bytes-to-all (p + 1) (omega arith) (omega arith))
 
       pub listing-line : {b : Bool} → b ≡ stands_in (place p) g → b ≡ true → left ≢ 0 → {new : List ℕ} {n : ℕ}
           → new ≡ out ++ ended (decimal p) → n ≡ left - 1 → Listing place g new (p + 1) n
@@ -105,6 +103,10 @@ module _ (place : ℕ → Place) (g : ℕ) where
             text = rw (left_over, lines-skipped place g p (processes - (p + 1)) e, ← add-one p) at l.text;
             count = omega (arith, l.count, passed-next p, weigh-no (stands_in (place p) g) 1 e);
           }
+
+    -- so has a process that is not listed yet
+    pub listing-left-room : 1 ≤ p → p ≤ processes → left ≢ 0 → length out + length (decimal p) + 1 ≤ longest_listing
+    listing-left-room some low more = listing-room some (listing-more low more)
 
     -- where none is left
     pub listing-done : left ≡ 0 → p ≤ processes → out ≡ process_lines place g 0 processes

@@ -3,7 +3,7 @@
 use Rattle.std.proofs.Common.{rules, arith, ◌∙◌}
 use Rattle.model.specs.Files.{contents}
 use Rattle.files.specs.Texts.{file_contents}
-use Rattle.files.proofs.ListingLaws.{listing_start, listing-room, listing-line, listing-skip, listing-done, listing-end}
+use Rattle.files.proofs.ListingLaws.{listing_start, listing-left-room, listing-line, listing-skip, listing-done, listing-end}
 use Rattle.files.proofs.list.put_procs.Goals as goal
 use Rattle.files.proofs.list.put_procs.Goals.{then-stands_in, else-stands_in}
 
@@ -16,7 +16,7 @@ unfolding file_contents contents
 returns-then-left-eq0 g c = listing-done _ _ c.loop-p.invariant c.if-left-eq0.true (omega arith)
 
 pub put_line-requires : goal.put_line-requires
-put_line-requires g c = (search rules, omega (arith, c.requires.room, listing-room _ _ c.loop-p.invariant (omega arith) (omega arith) c.if-left-eq0.false))
+put_line-requires g c = (search rules, omega (arith, c.requires.room, listing-left-room _ _ c.loop-p.invariant (omega arith) (omega arith) c.if-left-eq0.false))
 
 pub loop-p-preserved : goal.loop-p-preserved
 loop-p-preserved g c =
