@@ -77,7 +77,7 @@ module _ (place : ℕ → Place) (g : ℕ) where
       left_over : processes - p ≡ suc (processes - (p + 1))
       left_over = omega arith
 
-      -- a number has room for its line, whether it is to be listed or not
+      -- the line of a number has room, whether it is to be listed or not
       pub listing-room : length out + length (decimal p) + 1 ≤ longest_listing
       listing-room = omega (arith, l.short, line p some h, bytes-to-all (p + 1) (omega arith) (omega arith))
 
@@ -104,7 +104,7 @@ module _ (place : ℕ → Place) (g : ℕ) where
             count = omega (arith, l.count, passed-next p, weigh-no (stands_in (place p) g) 1 e);
           }
 
-    -- so has a process that is not listed yet
+    -- the line of the next number has room while a process is left to be listed
     pub listing-left-room : 1 ≤ p → p ≤ processes → left ≢ 0 → length out + length (decimal p) + 1 ≤ longest_listing
     listing-left-room some low more = listing-room some (listing-more low more)
 
